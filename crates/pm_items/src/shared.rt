@@ -1,0 +1,39 @@
+ghost use Rattle.std.specs.Prelude.{◌≡◌, IfOk};
+
+use std::alloc::{AllocError, Global};
+use std::marker::Model;
+use std::rc::Rc;
+
+/// An `Rc` that contracts see as its value, however often it is shared.
+#[derive(Drop)]
+pub struct Shared<T> {
+    inner: Rc<T>,
+}
+
+impl<T> Model for Shared<T> {
+    ghost Value = { T };
+
+    ghost coded = { T.code };
+
+    ghost view = { λ s. s.inner.value };
+}
+
+impl<T> Shared<T> {
+    /// The shared value, by reference.
+    pub fn get(&self) -> &T
+        ensures { result.now ≡ self.now }
+    {
+        &self.inner
+    }
+}
+
+impl<T: Drop> Shared<T> {
+    /// A value with its first owner. After an `Err` the value is dropped.
+    pub fn new(alloc: Global, value: T) -> Result<Shared<T>, AllocError>
+        ensures { IfOk result (λ s. s ≡ value) }
+    {
+        Ok(Shared {
+            inner: Rc::new(alloc, value)?,
+        })
+    }
+}
