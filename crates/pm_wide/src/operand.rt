@@ -7,3 +7,10 @@ pub enum Operand {
     Name(u32, IntType),
     Const(Wide),
 }
+
+impl Default for Operand {
+    /// An operand that fills an unused place of a `SmallVec`.
+    fn default() -> Operand {
+        Operand::Name(0, IntType::default())
+    }
+}

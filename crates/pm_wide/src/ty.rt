@@ -59,3 +59,13 @@ impl IntType {
         self.unsigned
     }
 }
+
+impl Default for IntType {
+    /// `_Bool`.
+    fn default() -> IntType {
+        IntType {
+            bits: 1,
+            unsigned: true,
+        }
+    }
+}
