@@ -1,5 +1,5 @@
 -- What the operations are, one line for each.
-use Rattle.std.specs.Prelude.{ℕ, Bool, true, false}
+use Rattle.std.specs.Prelude.{ℕ, ◌==◌, Bool, true, false}
 use Rattle.pm_ops.specs.declared.code.Code.{Code}
 use Rattle.pm_ops.specs.declared.code.Code.TheVariants.{Convert, Plus, Minus, Mult, TruncDiv, TruncMod, Negate, Abs, Absu, BitAnd, BitIor, BitXor, BitNot, Lshift, Rshift, Min, Max, Eq, Ne, Lt, Le, Gt, Ge, Cond}
 
@@ -110,3 +110,34 @@ swapped_code Le = Ge
 swapped_code Gt = Lt
 swapped_code Ge = Le
 swapped_code Cond = Cond
+
+-- the place of a code in the list of all codes
+abbrev pub code_number : Code → ℕ
+code_number Convert = 0
+code_number Plus = 1
+code_number Minus = 2
+code_number Mult = 3
+code_number TruncDiv = 4
+code_number TruncMod = 5
+code_number Negate = 6
+code_number Abs = 7
+code_number Absu = 8
+code_number BitAnd = 9
+code_number BitIor = 10
+code_number BitXor = 11
+code_number BitNot = 12
+code_number Lshift = 13
+code_number Rshift = 14
+code_number Min = 15
+code_number Max = 16
+code_number Eq = 17
+code_number Ne = 18
+code_number Lt = 19
+code_number Le = 20
+code_number Gt = 21
+code_number Ge = 22
+code_number Cond = 23
+
+-- the two are one code
+abbrev pub same_code : Code → Code → Bool
+same_code a b = code_number a == code_number b

@@ -1,5 +1,5 @@
-ghost use Rattle.std.specs.Prelude.{◌≡◌};
-ghost use Rattle.pm_ops.specs.Codes.{arity_of, is_commutative_code, is_comparison_code, swapped_code};
+ghost use Rattle.std.specs.Prelude.{◌≡◌, ◌↔◌, IsTrue};
+ghost use Rattle.pm_ops.specs.Codes.{arity_of, is_commutative_code, is_comparison_code, swapped_code, same_code};
 
 /// The operations of patterns and of GIMPLE right sides, after GCC's tree codes (`tree.def`).
 #[derive(Clone, Copy, Debug, PartialEq, Eq)]
@@ -75,5 +75,13 @@ impl Code {
             Code::Ge => Code::Le,
             other => other,
         }
+    }
+
+    /// Whether the two are one code.
+    pub fn same(self, other: Code) -> bool
+        ensures value { result ≡ same_code self other }
+        ensures equal { IsTrue result ↔ (self ≡ other) }
+    {
+        self == other
     }
 }
