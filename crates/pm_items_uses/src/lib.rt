@@ -1,0 +1,6 @@
+//! Types that hold themselves through the owners of `pm_items`: how they are declared, folded, copied and compared.
+#![tactic(auto)]
+
+pub mod expression;
+pub mod shared_term;
+pub mod tree;
