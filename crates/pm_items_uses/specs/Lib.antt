@@ -1,3 +1,5 @@
 pub mod Expressions
+pub mod PlainTrees
+pub mod PlainViews
 pub mod SharedTerms
 pub mod Trees

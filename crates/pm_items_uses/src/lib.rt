@@ -1,6 +1,7 @@
 //! Types that hold themselves through the owners of `pm_items`: how they are declared, folded, copied and compared.
 #![tactic(auto)]
 
+pub mod counted;
 pub mod expression;
 pub mod shared_term;
 pub mod tree;
