@@ -1,6 +1,6 @@
 //! Trees whose marks count what stands below them: a struct round the code's tree that contracts see as a plain tree.
-ghost use Rattle.std.specs.Prelude.{◌≡◌, ◌<◌, ◌^◌, length, IfOk};
-ghost use Rattle.pm_items_uses.specs.PlainTrees.{leaf, node, bare, grows, forest, greatest_in, greatest_below, IsCounted};
+ghost use Rattle.std.specs.Prelude.{◌≡◌, ◌<◌, ◌↔◌, length, map, IfOk, OnOk, IsTrue};
+ghost use Rattle.pm_items_uses.specs.PlainTrees.{leaf, node, bare, grows, forest, greatest_in, greatest_below, IsCounted, AreCounted};
 ghost use Rattle.pm_items_uses.specs.PlainViews.{plain_of, plain_forest};
 
 use crate::tree::Tree;
@@ -16,7 +16,7 @@ pub struct Counted {
 
 impl Model for Counted {
     ghost use Rattle.pm_items_uses.specs.PlainTrees.{PlainTree, plain_code, IsCounted};
-    ghost use Rattle.pm_items_uses.specs.PlainViews.{plain_of};
+    ghost use Rattle.pm_items_uses.specs.PlainViews.{plain_of, tree_of, tree_of-plain_of};
 
     ghost Value = { PlainTree };
 
@@ -25,6 +25,10 @@ impl Model for Counted {
     ghost view = { λ c. plain_of c.tree };
 
     ghost invariant = { λ c. IsCounted (plain_of c.tree) };
+
+    ghost inverse = { λ t. record { tree = tree_of t } };
+
+    ghost inverse_ok = { λ c h. λ i. record { tree = tree_of-plain_of c.tree i } };
 }
 
 impl Counted {
@@ -67,6 +71,37 @@ impl Counted {
             tree: self.tree.copy(alloc)?,
         })
     }
+
+    /// Whether two trees are one and the same value.
+    #[tactic(auto, using(crate::specs::PlainViews::plain_of_injective))]
+    pub fn same(&self, other: &Counted) -> bool
+        ensures { IsTrue result ↔ (self.now ≡ other.now) }
+    {
+        self.tree.same(&other.tree)
+    }
+
+    /// A tree over these, fewer than 256. After an `Err` they are dropped.
+    pub fn over(alloc: Global, below: Items<Counted>) -> Result<Counted, AllocError>
+        requires { length below < 256 }
+        ensures { IfOk result (λ c. c ≡ node (length below) (forest below)) }
+    {
+        let mark = below.len() as u8;
+        Ok(Counted {
+            tree: Tree::Node(mark, opened(alloc, below)?),
+        })
+    }
+}
+
+fn opened(alloc: Global, below: Items<Counted>) -> Result<Items<Tree>, AllocError>
+    ensures view { IfOk result (λ trees. map plain_of trees ≡ below) }
+    ensures counted { OnOk result (AreCounted (forest below)) }
+{
+    let mut trees = Items::new(alloc);
+    for counted in below.into_vec() {
+        let Counted { tree } = counted;
+        trees.push(tree)?;
+    }
+    Ok(trees)
 }
 
 #[cycle(numbers)]
