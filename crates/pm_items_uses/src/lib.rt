@@ -4,4 +4,5 @@
 pub mod counted;
 pub mod expression;
 pub mod shared_term;
+pub mod sheet;
 pub mod tree;
