@@ -1,0 +1,3 @@
+pub mod boxed
+pub mod items
+pub mod shared

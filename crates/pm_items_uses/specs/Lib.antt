@@ -1,0 +1,6 @@
+pub mod Expressions
+pub mod PlainTrees
+pub mod PlainViews
+pub mod SharedTerms
+pub mod Sheets
+pub mod Trees

@@ -1,0 +1,17 @@
+-- What a tree of the code says, by folds over one layer of it.
+use Rattle.std.specs.Prelude.{ℕ, max, List, fold, map}
+use Rattle.pm_items_uses.specs.declared.tree.Tree.{Tree, Tree-F, fold-Tree}
+use Rattle.pm_items_uses.specs.declared.tree.Tree.TheOpen.{Leaf, Node}
+
+-- the greatest number of one layer, given that of each child in its place
+abbrev pub greatest_step : Tree-F ℕ → ℕ
+greatest_step (Leaf number) = number
+greatest_step (Node mark below) = fold max 0 below
+
+-- the greatest number in a tree, or 0
+abbrev pub greatest : Tree → ℕ
+greatest = fold-Tree ℕ greatest_step
+
+-- the greatest number in any of these trees, or 0
+abbrev pub greatest_of : List Tree → ℕ
+greatest_of trees = fold max 0 (map greatest trees)

@@ -1,0 +1,8 @@
+//! Types that hold themselves through the owners of `pm_items`: how they are declared, folded, copied and compared.
+#![tactic(auto)]
+
+pub mod counted;
+pub mod expression;
+pub mod shared_term;
+pub mod sheet;
+pub mod tree;
