@@ -1,0 +1,7 @@
+pub mod BoundedSink
+pub mod Causes
+pub mod FileState
+pub mod NamedFiles
+pub mod Reading
+pub mod SureInputs
+pub mod Taking

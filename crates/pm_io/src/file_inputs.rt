@@ -1,0 +1,78 @@
+// Files of the system.
+ghost use Rattle.std.specs.Prelude.{◌≡◌, [], false, None};
+
+use crate::faults::Failed;
+use crate::inputs::Inputs;
+use std::fs::File;
+use std::io::{ErrorKind, Read};
+use std::marker::Model;
+use std::rt::Files;
+
+/// The files of a runtime. It tells nothing of what they hold.
+#[derive(Drop)]
+pub struct FileInputs<'r, R: Files> {
+    runtime: &'r R,
+    file: Option<R::File>,
+    faults: u64,
+}
+
+impl<'r, R: Files> Model for FileInputs<'r, R> {
+    ghost use Rattle.std.specs.Prelude.{is_some};
+    ghost use Rattle.pm_io.specs.FileState.{FileState};
+
+    ghost Value = { FileState };
+
+    ghost view = { λ inputs. record { begun = is_some inputs.file; faults = inputs.faults } };
+}
+
+impl<'r, R: Files> FileInputs<'r, R> {
+    /// The files of this runtime. None is begun, and no call has failed as yet.
+    pub fn new(runtime: &'r R) -> FileInputs<'r, R>
+        ensures { result ≡ record { begun = false; faults = 0 } }
+    {
+        FileInputs {
+            runtime,
+            file: None,
+            faults: 0,
+        }
+    }
+}
+
+impl<R: Files> Inputs for FileInputs<'_, R> {
+    ghost holds = { λ _. None };
+
+    ghost begun = { λ inputs. inputs.begun };
+
+    ghost left = { λ _. [] };
+
+    ghost faults = { λ inputs. inputs.faults };
+
+    // The runtime's word for a file that is missing is the kind `NotFound`.
+    fn start(&mut self, name: &str) -> Result<bool, Failed> {
+        self.file = None;
+        match File::open(self.runtime, name) {
+            Ok(file) => {
+                self.file = Some(file);
+                Ok(true)
+            }
+            Err(error) if error.kind() == ErrorKind::NotFound => Ok(false),
+            Err(_) => {
+                self.faults = self.faults.saturating_add(1);
+                Err(Failed)
+            }
+        }
+    }
+
+    fn read(&mut self, buffer: &mut [u8]) -> Result<usize, Failed> {
+        let Some(file) = &mut self.file else {
+            unreachable!()
+        };
+        match file.read(buffer) {
+            Ok(count) => Ok(count),
+            Err(_) => {
+                self.faults = self.faults.saturating_add(1);
+                Err(Failed)
+            }
+        }
+    }
+}
