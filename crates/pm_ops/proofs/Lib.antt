@@ -1,0 +1,5 @@
+pub mod CodeLemmas
+pub mod FindLemmas
+pub mod KindLemmas
+pub mod NameLemmas
+pub mod PredicateLemmas

@@ -1,1 +1,4 @@
 pub mod Codes
+pub mod Faults
+pub mod Names
+pub mod Predicates

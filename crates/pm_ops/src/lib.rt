@@ -2,9 +2,14 @@
 #![tactic(auto)]
 
 mod code;
+mod fault;
+pub mod laws;
 mod memory;
+mod predicate;
 mod text;
 
 pub use code::Code;
+pub use fault::{PatternFault, PatternKind};
 pub use memory::OutOfMemory;
+pub use predicate::Pred;
 pub use text::Text;
