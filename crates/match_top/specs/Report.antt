@@ -1,0 +1,36 @@
+-- The lines of the report.
+use Rattle.std.specs.Prelude.{ℕ, ◌+◌, ◌-◌, Bool, true, false, if◌then◌else◌, List, [], ◌∷◌, ◌++◌, Option, Some, None, codes, decimal}
+use Rattle.std.specs.List.{flat_map}
+use Rattle.std.specs.Option.{option_map_or}
+use Rattle.std.specs.Prelude.{slice_get}
+use Rattle.gim_ast.specs.Subjects.{Site, AtStmt, AtCond}
+use Rattle.gim_ast.specs.Rewriting.{What, IsCopy, IsSwap, IsFold, IsRow, Firing, Rewritten}
+use Rattle.first_patterns.specs.declared.row.Row.{Row}
+use Rattle.pm_places.specs.Places.{line_of, column_of}
+
+-- a text as a line
+abbrev pub line : List ℕ → List ℕ
+line text = text ++ 10 ∷ []
+
+-- the subject: a name as it is printed, or the block whose condition it is
+abbrev pub site_text : Site → List ℕ → List ℕ
+site_text (AtStmt x) base = base ++ 95 ∷ decimal x
+site_text (AtCond n) base = codes "__BB" ++ decimal n
+
+-- where the pattern of a row begins in its file, and the row's number
+abbrev pub row_text : List ℕ → List Row → ℕ → List ℕ
+row_text source rows n = option_map_or (λ (row : Row). decimal (line_of source row.at) ++ codes ":" ++ decimal (column_of source row.at)) (slice_get rows (n - 1)) [] ++ codes "#" ++ decimal n
+
+-- why the step was made; the `-` stands where checked mode names a method
+abbrev pub what_text : List ℕ → List Row → What → List ℕ
+what_text source rows IsCopy = codes "copy"
+what_text source rows IsSwap = codes "swap"
+what_text source rows IsFold = codes "fold"
+what_text source rows (IsRow n) = row_text source rows n ++ codes " -"
+
+abbrev pub firing_line : List ℕ → List Row → List ℕ → Firing → List ℕ
+firing_line source rows name firing = line (name ++ codes ": " ++ site_text firing.site firing.base ++ codes " " ++ what_text source rows firing.what)
+
+-- a line for each step, and one where the budget was spent
+abbrev pub report_of : List ℕ → List Row → List ℕ → Rewritten → List ℕ
+report_of source rows name r = flat_map (firing_line source rows name) r.firings ++ (if r.exhausted then line (name ++ codes ": budget") else [])

@@ -1,0 +1,40 @@
+ghost use Rattle.std.specs.Prelude.{◌≡◌, ◌↔◌, IsTrue, IfOk, map, string_bytes};
+ghost use Rattle.match_top.specs.Words.{command_of, is_positional};
+ghost use Rattle.match_top.specs.Settings.{spelled};
+
+use std::alloc::Global;
+
+use pm_ops::OutOfMemory;
+
+/// What the words of the command line ask for.
+#[derive(Debug, Drop)]
+pub enum Command {
+    /// `simplify P G`: the pattern file and the GIMPLE file.
+    Simplify(String, String),
+}
+
+/// The command that the words spell, or nothing where they spell none.
+pub fn settings(alloc: Global, words: &[String]) -> Result<Option<Command>, OutOfMemory>
+    ensures { IfOk result (λ command. spelled command ≡ command_of (map string_bytes words.now)) }
+{
+    let [word, patterns, functions] = words else {
+        return Ok(None);
+    };
+    if word.as_str() != "simplify" || !is_name(patterns.as_str()) || !is_name(functions.as_str()) {
+        return Ok(None);
+    }
+    let patterns = String::from_str(alloc, patterns.as_str())?;
+    let functions = String::from_str(alloc, functions.as_str())?;
+    Ok(Some(Command::Simplify(patterns, functions)))
+}
+
+/// Whether a word may name a file: it isn't empty, and doesn't begin as an option does.
+fn is_name(word: &str) -> bool
+    ensures { result ≡ is_positional word.now }
+{
+    match word.as_bytes() {
+        [] => false,
+        [_] => true,
+        [first, second, ..] => *first != b'-' || *second != b'-',
+    }
+}
