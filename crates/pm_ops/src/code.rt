@@ -1,35 +1,59 @@
 ghost use Rattle.std.specs.Prelude.{◌≡◌, find};
-ghost use Rattle.pm_ops.specs.Codes.{arity_of, is_commutative_code, is_comparison_code, swapped_code};
 ghost use Rattle.std.specs.List.{list_any};
 ghost use Rattle.std.specs.Str.{bytes_eq};
+ghost use Rattle.pm_ops.specs.Codes.{arity_of, is_commutative_code, is_comparison_code, swapped_code};
 ghost use Rattle.pm_ops.specs.Names.{code_c_name, code_c_named, code_c_names, code_name, code_named};
 
 /// The operations of patterns and of GIMPLE right sides, after GCC's tree codes (`tree.def`).
 #[derive(Clone, Copy, Debug, PartialEq, Eq)]
 pub enum Code {
+    /// The operand in another type, modulo 2 to the width of that type.
     Convert,
+    /// The sum.
     Plus,
+    /// The difference.
     Minus,
+    /// The product.
     Mult,
+    /// The quotient, rounded toward zero.
     TruncDiv,
+    /// The rest of that quotient.
     TruncMod,
+    /// 0 minus the operand.
     Negate,
+    /// The absolute value, in the same signed type.
     Abs,
+    /// The absolute value, in the unsigned type of that width.
     Absu,
+    /// The bits that both have.
     BitAnd,
+    /// The bits that either has.
     BitIor,
+    /// The bits that one has and the other has not.
     BitXor,
+    /// Each bit turned.
     BitNot,
+    /// The first operand shifted left by the second.
     Lshift,
+    /// The first operand shifted right by the second, with its sign in a signed type.
     Rshift,
+    /// The lesser.
     Min,
+    /// The greater.
     Max,
+    /// Equal.
     Eq,
+    /// Not equal.
     Ne,
+    /// Less.
     Lt,
+    /// Less or equal.
     Le,
+    /// Greater.
     Gt,
+    /// Greater or equal.
     Ge,
+    /// The second operand where the first is 1, else the third.
     Cond,
 }
 

@@ -7,8 +7,8 @@ use thiserror::Error;
 
 /// What is wrong with a pattern file, or that memory ran out while it was read.
 ///
-/// The stages of reading are bytes, lexing, depth, syntax, names, types and expansion. The first stage with a fault answers, with
-/// its first place in file order; at one place the kinds come in the order of each stage's own list in docs/.
+/// A file is read in stages: bytes, lexing, depth, syntax, names, types and expansion. The first stage with a fault answers, with
+/// its first place in file order.
 #[derive(Clone, Copy, Debug, PartialEq, Eq, Error)]
 pub enum PatternKind {
     /// Memory ran out.

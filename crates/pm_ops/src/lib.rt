@@ -6,6 +6,8 @@ mod fault;
 pub mod laws;
 mod memory;
 mod predicate;
+#[cfg(test)]
+mod tests;
 mod text;
 
 pub use code::Code;
