@@ -1,4 +1,5 @@
-//! Operator and predicate names, texts, and the faults of pattern files: the words that all crates share.
+//! Operator and predicate names, texts, and the faults of pattern files: the words that all crates
+//! share.
 #![tactic(auto)]
 
 mod code;
