@@ -1,41 +1,67 @@
 ghost use Rattle.std.specs.Prelude.{◌≡◌, ◌↔◌, IsTrue, find};
-ghost use Rattle.pm_ops.specs.Codes.{arity_of, is_commutative_code, is_comparison_code, swapped_code, same_code};
 ghost use Rattle.std.specs.List.{list_any};
 ghost use Rattle.std.specs.Str.{bytes_eq};
-ghost use Rattle.pm_ops.specs.Names.{code_c_name, code_c_named, code_c_names, code_name, code_named};
+ghost use Rattle.pm_ops.specs.Codes.{arity_of, swapped_code};
+ghost use Rattle.pm_ops.specs.Codes.{is_commutative_code, is_comparison_code};
+ghost use Rattle.pm_ops.specs.Names.{code_name, code_named};
+ghost use Rattle.pm_ops.specs.Names.{code_c_name, code_c_names, code_c_named};
 
 /// The operations of patterns and of GIMPLE right sides, after GCC's tree codes (`tree.def`).
 #[derive(Clone, Copy, Debug, PartialEq, Eq)]
 pub enum Code {
+    /// The operand in another type, modulo 2 to the width of that type.
     Convert,
+    /// The sum.
     Plus,
+    /// The difference.
     Minus,
+    /// The product.
     Mult,
+    /// The quotient, rounded toward zero.
     TruncDiv,
+    /// The rest of that quotient.
     TruncMod,
+    /// 0 minus the operand.
     Negate,
+    /// The absolute value, in the same signed type.
     Abs,
+    /// The absolute value, in the unsigned type of that width.
     Absu,
+    /// The bits that both have.
     BitAnd,
+    /// The bits that either has.
     BitIor,
+    /// The bits that one has and the other has not.
     BitXor,
+    /// Each bit turned.
     BitNot,
+    /// The first operand shifted left by the second.
     Lshift,
+    /// The first operand shifted right by the second, with its sign in a signed type.
     Rshift,
+    /// The lesser.
     Min,
+    /// The greater.
     Max,
+    /// Equal.
     Eq,
+    /// Not equal.
     Ne,
+    /// Less.
     Lt,
+    /// Less or equal.
     Le,
+    /// Greater.
     Gt,
+    /// Greater or equal.
     Ge,
+    /// The second operand where the first is 1, else the third.
     Cond,
 }
 
 impl Code {
     /// Every operation, once.
-    pub const ALL: [Code; 24] = [
+    const ALL: [Code; 24] = [
         Code::Convert,
         Code::Plus,
         Code::Minus,
@@ -62,7 +88,8 @@ impl Code {
         Code::Cond,
     ];
 
-    /// The operation of this name in patterns, as `plus`. `None` exactly where no operation has the name.
+    /// The operation of this name in patterns, as `plus`. `None` exactly where no operation has the
+    /// name.
     #[tactic(auto, unfolding(crate::specs::Names::code_named))]
     pub fn from_name(name: &[u8]) -> Option<Code>
         ensures { result ≡ code_named name.now }
@@ -102,8 +129,8 @@ impl Code {
         }
     }
 
-    /// The operation that C text writes so, as `PLUS_EXPR`. A conversion is written `CONVERT_EXPR` or `NOP_EXPR`.
-    /// `None` exactly where no operation has the name.
+    /// The operation that C text writes so, as `PLUS_EXPR`. A conversion is written `CONVERT_EXPR`
+    /// or `NOP_EXPR`. `None` exactly where no operation has the name.
     #[tactic(auto, unfolding(crate::specs::Names::code_c_named))]
     pub fn from_c_name(name: &[u8]) -> Option<Code>
         ensures { result ≡ code_c_named name.now }
@@ -186,8 +213,8 @@ impl Code {
         }
     }
 
-    /// The code that has the same value on exchanged operands, for a commutative code and a comparison.
-    /// Any other code stays.
+    /// The code that has the same value on exchanged operands, for a commutative code and a
+    /// comparison. Any other code stays.
     pub fn swapped(self) -> Code
         ensures { result ≡ swapped_code self }
     {

@@ -7,14 +7,14 @@ use thiserror::Error;
 
 /// What is wrong with a pattern file, or that memory ran out while it was read.
 ///
-/// The stages of reading are bytes, lexing, depth, syntax, names, types and expansion. The first stage with a fault answers, with
-/// its first place in file order; at one place the kinds come in the order of each stage's own list in docs/.
+/// A file is read in stages: bytes, lexing, depth, syntax, names, types and expansion. The first
+/// stage with a fault answers, with its first place in file order.
 #[derive(Clone, Copy, Debug, PartialEq, Eq, Error)]
 pub enum PatternKind {
     /// Memory ran out.
     #[error("out of memory")]
     Memory,
-    /// Bytes: the file is above its limit.
+    /// Bytes: the file has more than 4,194,304 bytes.
     #[error("the file is too long")]
     TooLong,
     /// Lexing: no token begins at this byte.
@@ -29,7 +29,8 @@ pub enum PatternKind {
     /// Lexing: a number above 2^63 - 1.
     #[error("a number above 2^63 - 1")]
     LongNumber,
-    /// Lexing: a `#` line that is no known directive or is out of place, or an `#if` that isn't ended.
+    /// Lexing: a `#` line that is no known directive or is out of place, or an `#if` that isn't
+    /// ended.
     #[error("a directive that is unknown, out of place or not ended")]
     Directive,
     /// Depth: the 65th parenthesis or brace open at once.
@@ -41,16 +42,19 @@ pub enum PatternKind {
     /// Syntax: the same within a C part.
     #[error("this stands in no C part here")]
     CSyntax,
-    /// Names: a head that is no operation, list, `for` identifier or predicate that may stand there; an unknown entry of a list.
+    /// Names: a head that is no operation, list, `for` identifier or predicate that may stand
+    /// there; an unknown entry of a list.
     #[error("an unknown operator")]
     UnknownOperator,
     /// Names: a predicate that is neither known nor defined above, or used in its own case.
     #[error("an unknown predicate")]
     UnknownPredicate,
-    /// Names: a capture in a result, condition or parameter list that the pattern hasn't.
+    /// Names: a capture in a result, condition or parameter list that the pattern hasn't, or any in
+    /// the condition of an `if` around forms.
     #[error("a capture that the pattern has not")]
     UnboundCapture,
-    /// Names: a wrong number of operands, parameters or arguments; operators of unequal arity in one list.
+    /// Names: a wrong number of operands, parameters or arguments; operators of unequal arity in
+    /// one list; cases of one predicate with unequal numbers of parameters.
     #[error("a wrong number of operands")]
     BadArity,
     /// Names: a flag, a `?`, a `!` or an outermost capture where none may stand.
@@ -65,13 +69,13 @@ pub enum PatternKind {
     /// Names: a further case of a predicate that a form above has used.
     #[error("a case after the predicate was used")]
     LateCase,
-    /// Depth: a form of more than 1,024 tokens.
+    /// Depth: a form, or the condition of an `if` around forms, of more than 1,024 tokens.
     #[error("a form of too many tokens")]
     TooManyTokens,
-    /// Names and expansion: more captures than a row may have.
+    /// Names and expansion: more than 32 captures in a row.
     #[error("too many captures")]
     TooManyCaptures,
-    /// Names and expansion: more nodes than a row may have.
+    /// Names and expansion: more than 32 operations in a pattern, or 16 in a leaf of a result.
     #[error("too many nodes")]
     TooManyNodes,
     /// Names: an unknown name or call in a C part.
@@ -80,7 +84,8 @@ pub enum PatternKind {
     /// Types: a type name that is no type, or a node without a type.
     #[error("the type is unknown")]
     TypeUnknown,
-    /// Types: an argument or operand in a C part of a wrong static type, or a wrong number of arguments.
+    /// Types: an argument or operand in a C part of a wrong static type, or a wrong number of
+    /// arguments.
     #[error("a wrong type in a C part")]
     CType,
     /// Expansion: an operator list without entries.
@@ -92,7 +97,7 @@ pub enum PatternKind {
     /// Expansion: a commuting flag on an operation that in some row neither commutes nor compares.
     #[error("an operation that does not commute")]
     NotCommutative,
-    /// Expansion: more rows than a form, a predicate or a file may have.
+    /// Expansion: more than 65,536 rows of a file or a predicate, or choices of a form.
     #[error("too many rows")]
     TooManyRows,
 }
@@ -141,10 +146,12 @@ impl PatternKind {
 pub struct PatternFault {
     /// What is wrong.
     pub kind: PatternKind,
-    /// Where the token or name concerned begins, in bytes from the beginning of the file, from 0. For want of memory it is 0.
+    /// Where the token or name concerned begins, in bytes from the beginning of the file, from 0.
+    /// For want of memory it is 0.
     pub at: usize,
-    /// How many bytes the token or name has. It is 0 at the end of input, where the tokens given to a reader of C parts end too
-    /// early, and for `Memory`, `TooLong`, `BadByte`, `OpenComment`, `OpenString` and `Directive`.
+    /// How many bytes the token or name has. It is 0 at the end of input, where the tokens given to
+    /// a reader of C parts end too early, and for `Memory`, `TooLong`, `BadByte`, `OpenComment`,
+    /// `OpenString` and `Directive`.
     pub len: usize,
 }
 

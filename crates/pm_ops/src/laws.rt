@@ -1,18 +1,21 @@
-//! What holds of the operations, the predicates, the kinds of fault and their names. Each call here does nothing: its contract
-//! is a law, which its check proves.
+//! What holds of the operations, the predicates, the kinds of fault and their names. Each call here
+//! does nothing: its contract is a law, which its check proves.
 ghost use Rattle.std.specs.Prelude.{◌≡◌, ◌≢◌, ◌↔◌, Some, None, Contains, codes};
 ghost use Rattle.pm_ops.specs.declared.code.Code.{Code};
 ghost use Rattle.pm_ops.specs.declared.code.Code.TheVariants.{Convert};
 ghost use Rattle.pm_ops.specs.declared.predicate.Pred.{Pred};
 ghost use Rattle.pm_ops.specs.declared.fault.PatternKind.{PatternKind};
-ghost use Rattle.pm_ops.specs.Codes.{arity_of, is_commutative_code, is_comparison_code, swapped_code};
-ghost use Rattle.pm_ops.specs.Names.{Name, code_name, code_named, code_c_name, code_c_names, code_c_named};
+ghost use Rattle.pm_ops.specs.Codes.{arity_of, swapped_code};
+ghost use Rattle.pm_ops.specs.Codes.{is_commutative_code, is_comparison_code};
+ghost use Rattle.pm_ops.specs.Names.{Name, code_name, code_named};
+ghost use Rattle.pm_ops.specs.Names.{code_c_name, code_c_names, code_c_named};
 ghost use Rattle.pm_ops.specs.Predicates.{pred_name, pred_named};
 ghost use Rattle.pm_ops.specs.Faults.{kind_name};
 
 /// A name in patterns is read as an operation exactly where it is that operation's name.
 pub fn code_is_read_from_its_name()
-    ensures { (name : Name) (code : Code) → (code_named name ≡ Some code) ↔ (name ≡ code_name code) }
+    ensures { (name : Name) (code : Code) →
+        (code_named name ≡ Some code) ↔ (name ≡ code_name code) }
 {}
 
 /// No operation is read exactly from the names that no operation has.
@@ -27,7 +30,8 @@ pub fn code_names_are_distinct()
 
 /// A name in C text is read as an operation exactly where it is among that operation's C names.
 pub fn code_is_read_from_its_c_names()
-    ensures { (name : Name) (code : Code) → (code_c_named name ≡ Some code) ↔ Contains (code_c_names code) name }
+    ensures { (name : Name) (code : Code) →
+        (code_c_named name ≡ Some code) ↔ Contains (code_c_names code) name }
 {}
 
 /// An operation is read from the C name that is written for it.
@@ -42,7 +46,8 @@ pub fn conversion_has_a_second_c_name()
 
 /// No operation is read exactly from the names that no operation has in C text.
 pub fn no_code_is_read_from_other_c_names()
-    ensures { (name : Name) → (code_c_named name ≡ None) ↔ ((code : Code) → ¬ (Contains (code_c_names code) name)) }
+    ensures { (name : Name) →
+        (code_c_named name ≡ None) ↔ ((code : Code) → ¬ (Contains (code_c_names code) name)) }
 {}
 
 /// No two operations are written alike in C text.
@@ -52,7 +57,8 @@ pub fn code_c_names_are_distinct()
 
 /// A name is read as a predicate exactly where it is that predicate's name.
 pub fn predicate_is_read_from_its_name()
-    ensures { (name : Name) (pred : Pred) → (pred_named name ≡ Some pred) ↔ (name ≡ pred_name pred) }
+    ensures { (name : Name) (pred : Pred) →
+        (pred_named name ≡ Some pred) ↔ (name ≡ pred_name pred) }
 {}
 
 /// No predicate is read exactly from the names that no predicate has.

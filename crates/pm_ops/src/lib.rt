@@ -1,4 +1,5 @@
-//! Operator and predicate names, texts, and the faults of pattern files: the words that all crates share.
+//! Operator and predicate names, texts, and the faults of pattern files: the words that all crates
+//! share.
 #![tactic(auto)]
 
 mod code;
@@ -6,6 +7,8 @@ mod fault;
 pub mod laws;
 mod memory;
 mod predicate;
+#[cfg(test)]
+mod tests;
 mod text;
 
 pub use code::Code;

@@ -2,8 +2,8 @@ ghost use Rattle.std.specs.Prelude.{◌≡◌, find};
 ghost use Rattle.std.specs.Str.{bytes_eq};
 ghost use Rattle.pm_ops.specs.Predicates.{pred_name, pred_named};
 
-/// The predicates on an operand, after those of GCC's `tree.h`. They go by the word: in a `_Bool` the constant 1 is one, true,
-/// all ones and a power of two at once.
+/// The predicates on an operand, after those of GCC's `tree.h`. They go by the word: in a `_Bool`
+/// the constant 1 is one, true, all ones and a power of two at once.
 #[derive(Clone, Copy, Debug, PartialEq, Eq)]
 pub enum Pred {
     /// The constant 0.
@@ -26,7 +26,7 @@ pub enum Pred {
 
 impl Pred {
     /// Every predicate, once.
-    pub const ALL: [Pred; 8] = [
+    const ALL: [Pred; 8] = [
         Pred::Zero,
         Pred::One,
         Pred::AllOnes,
@@ -37,7 +37,8 @@ impl Pred {
         Pred::Ssa,
     ];
 
-    /// The predicate of this name, as `integer_zerop`. `None` exactly where no predicate has the name.
+    /// The predicate of this name, as `integer_zerop`. `None` exactly where no predicate has the
+    /// name.
     #[tactic(auto, unfolding(crate::specs::Predicates::pred_named))]
     pub fn from_name(name: &[u8]) -> Option<Pred>
         ensures { result ≡ pred_named name.now }

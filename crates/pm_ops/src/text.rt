@@ -11,7 +11,8 @@ use std::marker::Model;
 
 /// A short text, as an identifier: its bytes, which contracts see as a list.
 ///
-/// It keeps its allocator. Equality and hashing go by the bytes, so it serves as a key of an `IndexMap`.
+/// It keeps its allocator. Equality and hashing go by the bytes, so it serves as a key of an
+/// `IndexMap`.
 #[derive(Debug, Drop)]
 pub struct Text {
     bytes: Vec<u8>,
