@@ -1,5 +1,5 @@
 -- What the calls on sinks take, where the sink tells the bytes that it took.
-use Rattle.std.specs.Prelude.{◌≡◌, ℕ, ◌<◌, ◌≤◌, List, ◌++◌, length, take, Option, Some, None, option_map, Result, Ok, Err, ⊤}
+use Rattle.std.specs.Prelude.{◌≡◌, ℕ, ◌<◌, ◌≤◌, List, ◌++◌, length, take, Option, Some, option_map, Result, Ok, Err, ⊤}
 
 -- what was taken, and then more
 abbrev pub followed_by : Option (List ℕ) → List ℕ → Option (List ℕ)
