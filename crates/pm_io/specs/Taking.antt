@@ -16,7 +16,7 @@ TakesAll before after bytes (Ok _) = after ≡ followed_by before bytes
 TakesAll before after bytes (Err _) =
     (count : ℕ) × (count < length bytes) × (after ≡ followed_by before (take count bytes))
 
--- the sink promises no room, or as many bytes as it has room for were taken
+-- where the sink promises room and tells what it took: it took as many bytes as it has room for
 abbrev pub IsFull : Option ℕ → Option (List ℕ) → Type 0
 IsFull (Some room) (Some taken) = room ≤ length taken
 IsFull _ _ = ⊤
