@@ -16,8 +16,8 @@ pub rest_of-drop : (bytes : List ℕ) (start : ℕ) → rest_of bytes start ≡ 
 rest_of-drop bytes start = take_all _ _ (simp length-drop (omega arith))
 
 -- the first `start` bytes, and then `count` of those that are left
-pub followed_by-take : (taken mid now : Option (List ℕ)) (bytes : List ℕ) (start count : ℕ) → mid ≡ followed_by taken (take start bytes) → now ≡ followed_by mid (take count (rest_of bytes start)) → now ≡ followed_by taken (take (start + count) bytes)
-followed_by-take taken mid now bytes start count before more =
+pub followed_by_take : (taken mid now : Option (List ℕ)) (bytes : List ℕ) (start count : ℕ) → mid ≡ followed_by taken (take start bytes) → now ≡ followed_by mid (take count (rest_of bytes start)) → now ≡ followed_by taken (take (start + count) bytes)
+followed_by_take taken mid now bytes start count before more =
     more ∙ ap (λ m. followed_by m (take count (rest_of bytes start))) before
     ∙ followed_by-append taken (take start bytes) (take count (rest_of bytes start))
     ∙ ap (λ rest. followed_by taken (take start bytes ++ take count rest)) (rest_of-drop bytes start)

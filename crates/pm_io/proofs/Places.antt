@@ -1,5 +1,5 @@
 -- The place of the first file of a name.
-use Rattle.std.proofs.Common.{◌≡◌, ℕ, ◌<◌, ◌≤◌, Bool, true, false, cond, List, [], ◌∷◌, length, map, Option, None, Some, refl, ap, ◌∙◌, sym, arith, String, Vec, inl, inr}
+use Rattle.std.proofs.Common.{◌≡◌, ℕ, Bool, true, false, cond, List, [], ◌∷◌, length, Option, None, Some, refl, ap, ◌∙◌, sym, arith, String, Vec, inl, inr}
 use Rattle.std.specs.Prelude.{option_map, slice_get, bytes_eq, string_bytes, find, position, nat_lt}
 use Rattle.std.specs.List.{position_or_len}
 use Rattle.std.specs.declared.alloc.Global.{Global}

@@ -1,5 +1,5 @@
 -- A sink in memory that has room for so many bytes in all.
-use Rattle.std.specs.Prelude.{◌≡◌, ℕ, ◌-◌, ◌<◌, ◌≤◌, min, List, ◌++◌, length, take, Result, Ok, Err}
+use Rattle.std.specs.Prelude.{◌≡◌, ℕ, ◌-◌, ◌<◌, min, List, ◌++◌, length, take, Result, Ok, Err}
 use Rattle.pm_io.specs.Causes.{one_more}
 
 -- how many bytes it takes in all, those that it took, and how often it failed

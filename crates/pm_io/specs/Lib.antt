@@ -1,5 +1,6 @@
 pub mod BoundedSink
 pub mod Causes
+pub mod FaultTexts
 pub mod FileState
 pub mod NamedFiles
 pub mod Reading

@@ -1,5 +1,5 @@
 -- What the calls on sinks take, where the sink tells the bytes that it took.
-use Rattle.std.specs.Prelude.{◌≡◌, ℕ, ◌<◌, ◌≤◌, List, ◌++◌, length, take, Option, Some, None, option_map, Result, Ok, Err, ⊤}
+use Rattle.std.specs.Prelude.{◌≡◌, ℕ, ◌<◌, ◌≤◌, List, ◌++◌, length, take, Option, Some, option_map, Result, Ok, Err, ⊤}
 
 -- what was taken, and then more
 abbrev pub followed_by : Option (List ℕ) → List ℕ → Option (List ℕ)
@@ -16,7 +16,7 @@ TakesAll before after bytes (Ok _) = after ≡ followed_by before bytes
 TakesAll before after bytes (Err _) =
     (count : ℕ) × (count < length bytes) × (after ≡ followed_by before (take count bytes))
 
--- the sink promises no room, or as many bytes as it has room for were taken
+-- where the sink promises room and tells what it took: it took as many bytes as it has room for
 abbrev pub IsFull : Option ℕ → Option (List ℕ) → Type 0
 IsFull (Some room) (Some taken) = room ≤ length taken
 IsFull _ _ = ⊤

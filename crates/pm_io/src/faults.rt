@@ -1,5 +1,6 @@
 // What reading and writing may answer in place of a result.
-ghost use Rattle.std.specs.Prelude.{◌≡◌};
+ghost use Rattle.std.specs.Prelude.{◌≡◌, Some, codes};
+ghost use Rattle.pm_io.specs.FaultTexts.{fault_text};
 ghost use Rattle.pm_io.specs.declared.faults.ReadFault.TheVariants.{Memory, Read};
 
 use std::alloc::{AllocError, AllocFailed};
@@ -11,6 +12,8 @@ use std::fmt;
 pub struct Failed;
 
 impl fmt::Display for Failed {
+    ghost output = { λ _. Some (codes "the device failed") };
+
     fn fmt<W: fmt::Write>(&self, f: &mut fmt::Formatter<W>) -> fmt::Result {
         write!(f, "the device failed")
     }
@@ -32,6 +35,8 @@ pub enum ReadFault {
 }
 
 impl fmt::Display for ReadFault {
+    ghost output = { λ fault. Some (fault_text fault) };
+
     fn fmt<W: fmt::Write>(&self, f: &mut fmt::Formatter<W>) -> fmt::Result {
         match self {
             ReadFault::Missing => write!(f, "there is no such file"),

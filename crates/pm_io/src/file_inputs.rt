@@ -1,5 +1,7 @@
 // Files of the system.
-ghost use Rattle.std.specs.Prelude.{◌≡◌, [], false, None};
+ghost use Rattle.std.specs.Prelude.{◌≡◌, ◌≤◌, [], true, false, None, length, IfOk};
+ghost use Rattle.pm_io.specs.Causes.{HasCause, count_after};
+ghost use Rattle.pm_io.specs.Reading.{is_begun_by};
 
 use crate::faults::Failed;
 use crate::inputs::Inputs;
@@ -48,7 +50,11 @@ impl<R: Files> Inputs for FileInputs<'_, R> {
     ghost faults = { λ inputs. inputs.faults };
 
     // The runtime's word for a file that is missing is the kind `NotFound`.
-    fn start(&mut self, name: &str) -> Result<bool, Failed> {
+    fn start(&mut self, name: &str) -> Result<bool, Failed>
+        ensures begun { self.new.begun ≡ is_begun_by result }
+        ensures cause { HasCause self.old.faults self.new.faults result }
+        ensures count { self.new.faults ≡ count_after self.old.faults result }
+    {
         self.file = None;
         match File::open(self.runtime, name) {
             Ok(file) => {
@@ -63,7 +69,13 @@ impl<R: Files> Inputs for FileInputs<'_, R> {
         }
     }
 
-    fn read(&mut self, buffer: &mut [u8]) -> Result<usize, Failed> {
+    fn read(&mut self, buffer: &mut [u8]) -> Result<usize, Failed>
+        requires { self.old.begun ≡ true }
+        ensures bound { IfOk result (λ count. count ≤ length buffer.new) }
+        ensures begun { self.new.begun ≡ true }
+        ensures cause { HasCause self.old.faults self.new.faults result }
+        ensures count { self.new.faults ≡ count_after self.old.faults result }
+    {
         let Some(file) = &mut self.file else {
             unreachable!()
         };

@@ -8,16 +8,17 @@ use std::alloc::Global;
 
 /// Files that are read by name, one at a time.
 pub trait Inputs {
-    /// Which bytes each name holds, or none; told or not told.
+    /// The bytes that each name holds, or none where there is no such file; `None` where that isn't told.
     ghost holds: { Self → Option (List ℕ → Option (List ℕ)) };
 
     /// Whether a file is begun.
     ghost begun: { Self → Bool };
 
-    /// The bytes of the begun file that are left. It says something only where `holds` is told.
+    /// The bytes of the begun file that are left. It says something only where `holds` is told and a
+    /// file is begun.
     ghost left: { Self → List ℕ };
 
-    /// How often a call failed, up to 2^64 - 1.
+    /// How often the inputs failed, counted up to 2^64 - 1.
     ghost faults: { Self → ℕ };
 
     /// Begins the file of this name at its first byte, and answers true; or answers that there is none.
@@ -40,7 +41,7 @@ pub trait Inputs {
         ensures told { IfSome (holds self.old) (λ _. Reads (left self.old) (left self.new) buffer.new result) };
 }
 
-/// How many bytes are asked for at once.
+/// How many bytes `read_all` asks for at once.
 const PIECE: usize = 8192;
 
 /// Reads the whole file of this name, of at most `limit` bytes.

@@ -21,3 +21,6 @@ pub use sinks::{Sink, write_all};
 pub use std_sink::StdSink;
 pub use sure_inputs::SureInputs;
 pub use sure_sink::SureSink;
+
+#[cfg(test)]
+mod tests;

@@ -7,13 +7,13 @@ use crate::faults::Failed;
 
 /// A place for bytes, as a file or a terminal.
 pub trait Sink {
-    /// The bytes that were taken so far; told or not told.
+    /// The bytes that were taken so far; `None` where the sink doesn't tell them.
     ghost taken: { Self → Option (List ℕ) };
 
-    /// How many bytes in all it promises to take before a write fails, if it promises that.
+    /// How many bytes in all it takes before a write fails; `None` where it promises nothing of the kind.
     ghost room: { Self → Option ℕ } = { λ _. None };
 
-    /// How often a write failed, up to 2^64 - 1.
+    /// How often the sink failed, counted up to 2^64 - 1.
     ghost faults: { Self → ℕ };
 
     /// Takes a front of `bytes` and answers its length, at least 1 where `bytes` isn't empty. After
@@ -27,7 +27,9 @@ pub trait Sink {
         ensures full { OnErr result (IsFull (room self.old) (taken self.old)) };
 }
 
-/// Writes all of `bytes`. Where the sink fails it writes no more.
+/// Writes all of `bytes`, piece by piece as the sink takes them. Where it fails, the bytes before the
+/// piece that failed were taken.
+#[tactic(auto, using(crate::proofs::Followed::followed_by_take))]
 pub fn write_all<S: Sink>(sink: &mut S, bytes: &[u8]) -> Result<(), Failed>
     ensures taken { TakesAll (S.taken sink.old) (S.taken sink.new) bytes.now result }
     ensures cause { HasCause (S.faults sink.old) (S.faults sink.new) result }

@@ -1,6 +1,6 @@
 // A writer of the system as a sink.
-ghost use Rattle.std.specs.Prelude.{◌≡◌, None, IfOk, is_ok, if◌then◌else◌};
-ghost use Rattle.pm_io.specs.Causes.{one_more};
+ghost use Rattle.std.specs.Prelude.{◌≡◌, ◌<◌, ◌≤◌, None, length, IfOk};
+ghost use Rattle.pm_io.specs.Causes.{HasCause, count_after};
 
 use crate::faults::Failed;
 use crate::sinks::Sink;
@@ -37,7 +37,12 @@ impl<W: Write + Drop> Sink for StdSink<W> {
     ghost faults = { λ faults. faults };
 
     // A writer that takes nothing has failed, and so has one that doesn't flush.
-    fn write(&mut self, bytes: &[u8]) -> Result<usize, Failed> {
+    fn write(&mut self, bytes: &[u8]) -> Result<usize, Failed>
+        ensures bound { IfOk result (λ count. count ≤ length bytes.now) }
+        ensures some { IfOk result (λ count. 0 < length bytes.now → 0 < count) }
+        ensures cause { HasCause self.old self.new result }
+        ensures count { self.new ≡ count_after self.old result }
+    {
         if bytes.is_empty() {
             return Ok(0);
         }
