@@ -1,7 +1,7 @@
 ghost use Rattle.std.specs.Prelude.{◌≡◌, ◌↔◌, IsTrue, find};
 ghost use Rattle.std.specs.List.{list_any};
 ghost use Rattle.std.specs.Str.{bytes_eq};
-ghost use Rattle.pm_ops.specs.Codes.{arity_of, swapped_code};
+ghost use Rattle.pm_ops.specs.Codes.{arity_of, same_code, swapped_code};
 ghost use Rattle.pm_ops.specs.Codes.{is_commutative_code, is_comparison_code};
 ghost use Rattle.pm_ops.specs.Names.{code_name, code_named};
 ghost use Rattle.pm_ops.specs.Names.{code_c_name, code_c_names, code_c_named};
