@@ -3,6 +3,7 @@
 
 pub mod counted;
 pub mod expression;
+pub mod loops;
 pub mod shared_term;
 pub mod sheet;
 pub mod tree;

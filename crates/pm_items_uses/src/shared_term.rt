@@ -6,7 +6,7 @@ use pm_items::Shared;
 use std::alloc::{AllocError, Global};
 
 /// A name, or a sum of two terms.
-#[derive(Debug, PartialEq, Eq, Drop)]
+#[derive(Debug, PartialEq, Eq, Hash, Drop)]
 pub enum SharedTerm {
     Name(u32),
     Sum(Shared<SharedTerm>, Shared<SharedTerm>),

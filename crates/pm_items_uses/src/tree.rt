@@ -6,7 +6,7 @@ use pm_items::Items;
 use std::alloc::{AllocError, Global};
 
 /// A number, or a mark over any number of trees.
-#[derive(Debug, PartialEq, Eq, Drop)]
+#[derive(Debug, PartialEq, Eq, Hash, Drop)]
 pub enum Tree {
     Leaf(u32),
     Node(u8, Items<Tree>),
