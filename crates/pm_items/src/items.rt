@@ -73,24 +73,28 @@ impl<T> Items<T> {
         self.items.reserve(additional)
     }
 
+    /// The elements as a slice, which a `for` goes over by place.
     pub fn as_slice(&self) -> &[T]
         ensures { result.now ≡ self.now }
     {
         self.items.as_slice()
     }
 
+    /// How many elements there are.
     pub fn len(&self) -> usize
         ensures { result ≡ length self.now }
     {
         self.items.len()
     }
 
+    /// Whether there are none.
     pub fn is_empty(&self) -> bool
         ensures { IsTrue result ↔ (self.now ≡ []) }
     {
         self.items.is_empty()
     }
 
+    /// The element at a place, if it is there.
     pub fn get(&self, at: usize) -> Option<&T>
         ensures value { option_copied result ≡ slice_get self.now at }
         ensures within { OnSome result (at < length self.now) }
