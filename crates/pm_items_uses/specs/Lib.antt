@@ -1,4 +1,5 @@
 pub mod Expressions
+pub mod PlainCodes
 pub mod PlainTrees
 pub mod PlainViews
 pub mod SharedTerms

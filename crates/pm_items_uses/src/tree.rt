@@ -1,6 +1,6 @@
 //! A tree whose nodes hold their children in `Items`.
-ghost use Rattle.pm_items_uses.specs.Trees.{greatest, greatest_of};
-ghost use Rattle.std.specs.Prelude.{◌≡◌, ◌↔◌, ◌<◌, [], ◌∷◌, length, IfOk, IsTrue};
+ghost use Rattle.pm_items_uses.specs.Trees.{greatest, greatest_of, marked};
+ghost use Rattle.std.specs.Prelude.{◌≡◌, ◌↔◌, ◌<◌, length, map, IfOk, IsTrue};
 
 use pm_items::Items;
 use std::alloc::{AllocError, Global};
@@ -35,6 +35,20 @@ impl Tree {
         }
     }
 
+    /// Writes this mark over each.
+    #[cycle(mark)]
+    pub fn mark_all(&mut self, mark: u8)
+        ensures { self.new ≡ marked mark self.old }
+    {
+        match self {
+            Tree::Leaf(_) => {}
+            Tree::Node(old, below) => {
+                *old = mark;
+                mark_each(below, mark);
+            }
+        }
+    }
+
     /// Whether two trees are one and the same value.
     #[cycle(same)]
     pub fn same(&self, other: &Tree) -> bool
@@ -57,6 +71,15 @@ fn greatest_of(trees: &[Tree]) -> u32
         most = most.max(tree.greatest());
     }
     most
+}
+
+#[cycle(mark)]
+fn mark_each(trees: &mut Items<Tree>, mark: u8)
+    ensures { trees.new ≡ map (marked mark) trees.old }
+{
+    for at in 0..trees.len() {
+        trees.at_mut(at).mark_all(mark);
+    }
 }
 
 #[cycle(copy)]
