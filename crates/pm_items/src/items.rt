@@ -57,7 +57,7 @@ impl<T> Items<T> {
         items
     }
 
-    /// No elements, with room for `capacity` of them.
+    /// No elements, with room for `capacity` of them. Contracts do not see room: it only saves moves.
     pub fn with_capacity(alloc: Global, capacity: usize) -> Result<Items<T>, AllocError>
         ensures { IfOk result (λ it. it ≡ []) }
     {
@@ -66,7 +66,7 @@ impl<T> Items<T> {
         })
     }
 
-    /// Makes room for `additional` more elements. The list stays, whatever the result.
+    /// Makes room for `additional` more elements, which contracts do not see. The list stays, whatever the result.
     pub fn reserve(&mut self, additional: usize) -> Result<(), AllocError>
         ensures { self.new ≡ self.old }
     {
