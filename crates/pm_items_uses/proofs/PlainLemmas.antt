@@ -1,5 +1,5 @@
 -- Laws of plain trees that the code's proofs cite.
-use Rattle.std.proofs.Common.{◌≡◌, ℕ, List, [], ◌∷◌, ◌++◌, length, map, arith, ap, sym, subst, ◌∙◌}
+use Rattle.std.proofs.Common.{◌≡◌, ℕ, List, [], ◌∷◌, ◌++◌, length, map, arith, sym, subst, ◌∙◌}
 use Rattle.pm_items_uses.specs.PlainTrees.{PlainTree, forest, count, IsCounted, AreCounted}
 use Rattle.pm_items_uses.specs.PlainViews.{plain_of}
 use Rattle.pm_items_uses.specs.PlainCodes.{plain_of-Node}

@@ -1,3 +1,4 @@
+pub mod Cases
 pub mod Expressions
 pub mod PlainCodes
 pub mod PlainTrees

@@ -45,7 +45,7 @@ layer_back (Node mark es) = ap (tree.Node mark) (each_back es) ∙ sym (rolls-No
 pub tree_of-plain_of : (t : Tree) → tree_of (plain_of t) ≡ t
 tree_of-plain_of =
     ind-Tree GivesBack (λ x y is. ap tree_of (fold-roll-Tree PlainTree plain_step x)
-        ∙ subst (λ z. tree_of (plain_step (map-Tree Tree PlainTree plain_of z)) ≡ roll-Tree z) is (layer_back y))
+    ∙ subst (λ z. tree_of (plain_step (map-Tree Tree PlainTree plain_of z)) ≡ roll-Tree z) is (layer_back y))
 
 -- trees of the code with one plain tree are one
 pub plain_of_injective : (a b : Tree) → plain_of a ≡ plain_of b → a ≡ b

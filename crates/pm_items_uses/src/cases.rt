@@ -1,5 +1,6 @@
 //! Two types that hold each other: a pattern over cases, and a case over patterns.
-ghost use Rattle.std.specs.Prelude.{◌≡◌, ◌↔◌, ◌<◌, length, IfOk, IsTrue};
+ghost use Rattle.std.specs.Prelude.{◌≡◌, ◌↔◌, IfOk, IsTrue};
+ghost use Rattle.pm_items_uses.specs.Cases.{highest, highest_in, highest_of};
 
 use pm_items::{Items, Shared};
 use std::alloc::{AllocError, Global};
@@ -21,6 +22,17 @@ pub struct Case {
 }
 
 impl Pattern {
+    /// The highest capture that the pattern names, and 0 where it names none.
+    #[cycle(highest)]
+    pub fn highest(&self) -> u8
+        ensures { result ≡ highest self.now }
+    {
+        match self {
+            Pattern::Capture(capture) => *capture,
+            Pattern::Choice(cases) => highest_of(cases.as_slice()),
+        }
+    }
+
     /// A pattern equal to this one, with what its cases ask for shared.
     #[cycle(copy)]
     pub fn copy(&self, alloc: Global) -> Result<Pattern, AllocError>
@@ -43,6 +55,24 @@ impl Pattern {
             _ => false,
         }
     }
+}
+
+#[cycle(highest)]
+fn highest_in(case: &Case) -> u8
+    ensures { result ≡ highest_in case.now }
+{
+    case.when.get().highest().max(case.gives.highest())
+}
+
+#[cycle(highest)]
+fn highest_of(cases: &[Case]) -> u8
+    ensures { result ≡ highest_of cases.now }
+{
+    let mut most = 0;
+    for case in cases {
+        most = most.max(highest_in(case));
+    }
+    most
 }
 
 #[cycle(copy)]

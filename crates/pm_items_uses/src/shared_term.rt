@@ -1,5 +1,5 @@
 //! A term whose operands are `Shared`, so that a result may share what stood in its source.
-ghost use Rattle.std.specs.Prelude.{◌≡◌, ◌↔◌, ◌<◌, IfOk, IsTrue};
+ghost use Rattle.std.specs.Prelude.{◌≡◌, ◌↔◌, IfOk, IsTrue};
 ghost use Rattle.pm_items_uses.specs.SharedTerms.{depth, swapped};
 
 use pm_items::Shared;
@@ -30,7 +30,10 @@ impl SharedTerm {
         match self {
             SharedTerm::Name(_) => 0,
             SharedTerm::Sum(left, right) => {
-                left.get().depth().max(right.get().depth()).saturating_add(1)
+                left.get()
+                    .depth()
+                    .max(right.get().depth())
+                    .saturating_add(1)
             }
         }
     }

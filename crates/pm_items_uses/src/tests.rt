@@ -16,7 +16,10 @@ fn copies_take_memory(rt: HostRuntime) -> Result<(), Fail> {
     let copy = tree.copy(alloc)?;
     tree.mark_all(9);
     let shown = format!(in alloc; "{copy:?} {tree:?}")?;
-    assert_eq!(rt; shown.as_str(), "Node(2, [Leaf(7), Node(1, [])]) Node(9, [Leaf(7), Node(9, [])])");
+    assert_eq!(rt;
+        shown.as_str(),
+        "Node(2, [Leaf(7), Node(1, [])]) Node(9, [Leaf(7), Node(9, [])])"
+    );
 
     let name = Expression::Negated(Boxed::new(alloc, Expression::Name(3))?);
     let mut twice = name.copy(alloc)?;
@@ -24,8 +27,17 @@ fn copies_take_memory(rt: HostRuntime) -> Result<(), Fail> {
     twice.rename(4);
     assert!(rt; name != twice);
 
-    let end = Boxed::new(alloc, Chain { number: 1, next: None })?;
-    let chain = Chain { number: 2, next: Some(end) };
+    let end = Boxed::new(
+        alloc,
+        Chain {
+            number: 1,
+            next: None,
+        },
+    )?;
+    let chain = Chain {
+        number: 2,
+        next: Some(end),
+    };
     assert!(rt; chain.copy(alloc)? == chain);
     Ok(())
 }

@@ -56,7 +56,8 @@ impl Tree {
     {
         match (self, other) {
             (Tree::Leaf(a), Tree::Leaf(b)) => *a == *b,
-            (Tree::Node(m, a), Tree::Node(n, b)) => *m == *n && same_all(a.as_slice(), b.as_slice()),
+            (Tree::Node(m, a), Tree::Node(n, b)) => *m == *n
+                && same_all(a.as_slice(), b.as_slice()),
             _ => false,
         }
     }
