@@ -1,5 +1,5 @@
 -- Laws of elements by their place, where no default element is at hand.
-use Rattle.std.proofs.Common.{◌≡◌, ◌≢◌, ℕ, zero, suc, ◌+◌, ◌<◌, List, [], ◌∷◌, ◌++◌, length, map, Option, Some, None, slice_get, slice_set, refl, ap, arith, zero-add, add-suc}
+use Rattle.std.proofs.Common.{◌≡◌, ◌≢◌, ℕ, zero, suc, ◌+◌, ◌<◌, List, [], ◌∷◌, ◌++◌, length, map, Some, slice_get, slice_set, refl, ap, arith, zero-add}
 use Rattle.std.specs.Prelude.{option_map}
 use Rattle.pm_items.specs.Lists.{changed}
 

@@ -57,7 +57,7 @@ impl<T> Items<T> {
         items
     }
 
-    /// No elements, with room for `capacity` of them.
+    /// No elements, with room for `capacity` of them. Contracts do not see room: it only saves moves.
     pub fn with_capacity(alloc: Global, capacity: usize) -> Result<Items<T>, AllocError>
         ensures { IfOk result (λ it. it ≡ []) }
     {
@@ -66,31 +66,35 @@ impl<T> Items<T> {
         })
     }
 
-    /// Makes room for `additional` more elements. The list stays, whatever the result.
+    /// Makes room for `additional` more elements, which contracts do not see. The list stays, whatever the result.
     pub fn reserve(&mut self, additional: usize) -> Result<(), AllocError>
         ensures { self.new ≡ self.old }
     {
         self.items.reserve(additional)
     }
 
+    /// The elements as a slice, which a `for` goes over by place.
     pub fn as_slice(&self) -> &[T]
         ensures { result.now ≡ self.now }
     {
         self.items.as_slice()
     }
 
+    /// How many elements there are.
     pub fn len(&self) -> usize
         ensures { result ≡ length self.now }
     {
         self.items.len()
     }
 
+    /// Whether there are none.
     pub fn is_empty(&self) -> bool
         ensures { IsTrue result ↔ (self.now ≡ []) }
     {
         self.items.is_empty()
     }
 
+    /// The element at a place, if it is there.
     pub fn get(&self, at: usize) -> Option<&T>
         ensures value { option_copied result ≡ slice_get self.now at }
         ensures within { OnSome result (at < length self.now) }

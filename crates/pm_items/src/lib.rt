@@ -11,3 +11,6 @@ mod shared;
 pub use boxed::Boxed;
 pub use items::Items;
 pub use shared::Shared;
+
+#[cfg(test)]
+mod tests;

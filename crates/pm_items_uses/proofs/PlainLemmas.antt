@@ -1,7 +1,8 @@
 -- Laws of plain trees that the code's proofs cite.
-use Rattle.std.proofs.Common.{◌≡◌, ℕ, List, [], ◌∷◌, ◌++◌, length, map, arith, ap, sym, subst, ◌∙◌}
+use Rattle.std.proofs.Common.{◌≡◌, ℕ, List, [], ◌∷◌, ◌++◌, length, map, arith, sym, subst, ◌∙◌}
 use Rattle.pm_items_uses.specs.PlainTrees.{PlainTree, forest, count, IsCounted, AreCounted}
-use Rattle.pm_items_uses.specs.PlainViews.{plain_of, plain_of-Node}
+use Rattle.pm_items_uses.specs.PlainViews.{plain_of}
+use Rattle.pm_items_uses.specs.PlainCodes.{plain_of-Node}
 use Rattle.pm_items_uses.specs.declared.tree.Tree as tree
 use Rattle.pm_items_uses.specs.declared.tree.Tree.{Tree}
 

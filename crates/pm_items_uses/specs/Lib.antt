@@ -1,4 +1,6 @@
+pub mod Cases
 pub mod Expressions
+pub mod PlainCodes
 pub mod PlainTrees
 pub mod PlainViews
 pub mod SharedTerms

@@ -1,8 +1,5 @@
 -- Trees as plain data: what definitions over trees go by, with no pointer, row or list of lists in sight.
-use Rattle.std.specs.Prelude.{◌≡◌, ℕ, ◌+◌, max, List, [], ◌∷◌, ⊤, refl}
-use Rattle.std.specs.Coded.{Coded, code_by}
-use base.Stored.{Gv, gnil, gnum, gcons, num}
-use denote.Struct.Codes.{itself}
+use Rattle.std.specs.Prelude.{◌≡◌, ℕ, ◌+◌, max, List, [], ◌∷◌, ⊤}
 
 -- a number, or a mark over a forest
 mutual
@@ -45,36 +42,3 @@ abbrev mutual
   pub AreCounted : Forest → Type 0
   AreCounted bare = ⊤
   AreCounted (grows t ts) = IsCounted t × AreCounted ts
-
--- the code of plain trees: a tree of numbers that gives them back
-abbrev mutual
-  to_tree : PlainTree → Gv
-  to_tree (leaf number) = gnum number
-  to_tree (node mark below) = gcons (gnum mark) (to_forest below)
-
-  to_forest : Forest → Gv
-  to_forest bare = gnil
-  to_forest (grows t ts) = gcons (to_tree t) (to_forest ts)
-
-abbrev mutual
-  from_tree : Gv → PlainTree
-  from_tree gnil = leaf 0
-  from_tree (gnum number) = leaf number
-  from_tree (gcons mark below) = node (num mark) (from_forest below)
-
-  from_forest : Gv → Forest
-  from_forest gnil = bare
-  from_forest (gnum number) = bare
-  from_forest (gcons t ts) = grows (from_tree t) (from_forest ts)
-
-mutual
-  pub from-to_tree : (t : PlainTree) → from_tree (to_tree t) ≡ t
-  from-to_tree (leaf number) = refl
-  from-to_tree (node mark below) = λ i. node mark (from-to_forest below i)
-
-  pub from-to_forest : (ts : Forest) → from_forest (to_forest ts) ≡ ts
-  from-to_forest bare = refl
-  from-to_forest (grows t ts) = λ i. grows (from-to_tree t i) (from-to_forest ts i)
-
-abbrev pub plain_code : Coded PlainTree
-plain_code = code_by Gv itself to_tree from_tree from-to_tree

@@ -1,5 +1,6 @@
 -- What a tree of the code says, by folds over one layer of it.
 use Rattle.std.specs.Prelude.{ℕ, max, List, fold, map}
+use Rattle.pm_items_uses.specs.declared.tree.Tree as tree
 use Rattle.pm_items_uses.specs.declared.tree.Tree.{Tree, Tree-F, fold-Tree}
 use Rattle.pm_items_uses.specs.declared.tree.Tree.TheOpen.{Leaf, Node}
 
@@ -15,3 +16,12 @@ greatest = fold-Tree ℕ greatest_step
 -- the greatest number in any of these trees, or 0
 abbrev pub greatest_of : List Tree → ℕ
 greatest_of trees = fold max 0 (map greatest trees)
+
+-- one layer with its children marked, marked itself
+abbrev pub marked_step : ℕ → Tree-F Tree → Tree
+marked_step mark (Leaf number) = tree.Leaf number
+marked_step mark (Node old below) = tree.Node mark below
+
+-- the tree with this mark in the place of each
+abbrev pub marked : ℕ → Tree → Tree
+marked mark = fold-Tree Tree (marked_step mark)

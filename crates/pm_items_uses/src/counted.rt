@@ -15,8 +15,9 @@ pub struct Counted {
 }
 
 impl Model for Counted {
-    ghost use Rattle.pm_items_uses.specs.PlainTrees.{PlainTree, plain_code, IsCounted};
-    ghost use Rattle.pm_items_uses.specs.PlainViews.{plain_of, tree_of, tree_of-plain_of};
+    ghost use Rattle.pm_items_uses.specs.PlainTrees.{PlainTree, IsCounted};
+    ghost use Rattle.pm_items_uses.specs.PlainViews.{plain_of};
+    ghost use Rattle.pm_items_uses.specs.PlainCodes.{plain_code, tree_of, tree_of-plain_of};
 
     ghost Value = { PlainTree };
 
@@ -73,7 +74,7 @@ impl Counted {
     }
 
     /// Whether two trees are one and the same value.
-    #[tactic(auto, using(crate::specs::PlainViews::plain_of_injective))]
+    #[tactic(auto, using(crate::specs::PlainCodes::plain_of_injective))]
     pub fn same(&self, other: &Counted) -> bool
         ensures { IsTrue result ↔ (self.now ≡ other.now) }
     {

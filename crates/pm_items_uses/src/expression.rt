@@ -1,12 +1,12 @@
 //! An expression whose operands are `Boxed`, and a chain through an `Option` of a `Boxed`.
 ghost use Rattle.std.specs.Prelude.{◌≡◌, ◌+◌, ◌^◌, ◌<◌, ◌↔◌, IfOk, IsTrue};
-ghost use Rattle.pm_items_uses.specs.Expressions.{names, links};
+ghost use Rattle.pm_items_uses.specs.Expressions.{names, renamed, links};
 
 use pm_items::Boxed;
 use std::alloc::{AllocError, Global};
 
 /// A name, its negation, or a sum.
-#[derive(Debug, PartialEq, Eq, Drop)]
+#[derive(Debug, PartialEq, Eq, Hash, Drop)]
 pub enum Expression {
     Name(u32),
     Negated(Boxed<Expression>),
@@ -58,8 +58,10 @@ impl Expression {
         }
     }
 
-    /// Writes over each name.
-    pub fn rename(&mut self, name: u32) {
+    /// Writes this name over each.
+    pub fn rename(&mut self, name: u32)
+        ensures { self.new ≡ renamed name self.old }
+    {
         match self {
             Expression::Name(old) => *old = name,
             Expression::Negated(inner) => inner.get_mut().rename(name),
@@ -72,7 +74,7 @@ impl Expression {
 }
 
 /// A list of numbers, link by link.
-#[derive(Debug, PartialEq, Eq, Drop)]
+#[derive(Debug, PartialEq, Eq, Hash, Drop)]
 pub struct Chain {
     pub number: u32,
     pub next: Option<Boxed<Chain>>,

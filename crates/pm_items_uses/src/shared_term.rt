@@ -1,12 +1,12 @@
 //! A term whose operands are `Shared`, so that a result may share what stood in its source.
-ghost use Rattle.std.specs.Prelude.{◌≡◌, ◌↔◌, ◌<◌, IfOk, IsTrue};
+ghost use Rattle.std.specs.Prelude.{◌≡◌, ◌↔◌, IfOk, IsTrue};
 ghost use Rattle.pm_items_uses.specs.SharedTerms.{depth, swapped};
 
 use pm_items::Shared;
 use std::alloc::{AllocError, Global};
 
 /// A name, or a sum of two terms.
-#[derive(Debug, PartialEq, Eq, Drop)]
+#[derive(Debug, PartialEq, Eq, Hash, Drop)]
 pub enum SharedTerm {
     Name(u32),
     Sum(Shared<SharedTerm>, Shared<SharedTerm>),
@@ -30,7 +30,10 @@ impl SharedTerm {
         match self {
             SharedTerm::Name(_) => 0,
             SharedTerm::Sum(left, right) => {
-                left.get().depth().max(right.get().depth()).saturating_add(1)
+                left.get()
+                    .depth()
+                    .max(right.get().depth())
+                    .saturating_add(1)
             }
         }
     }

@@ -26,13 +26,3 @@ pub fn see(sheet: &mut Sheet, at: usize)
 {
     sheet.rows.at_mut(at).is_seen = true;
 }
-
-/// Writes a name over the one of a row, where it stands.
-pub fn rename(sheet: &mut Sheet, at: usize, name: u32)
-    requires { at < length sheet.old.rows }
-    ensures title { sheet.new.title ≡ sheet.old.title }
-    ensures len { length sheet.new.rows ≡ length sheet.old.rows }
-{
-    let row = sheet.rows.at_mut(at);
-    row.name = name;
-}

@@ -1,12 +1,12 @@
 //! A tree whose nodes hold their children in `Items`.
-ghost use Rattle.pm_items_uses.specs.Trees.{greatest, greatest_of};
-ghost use Rattle.std.specs.Prelude.{◌≡◌, ◌↔◌, ◌<◌, [], ◌∷◌, length, IfOk, IsTrue};
+ghost use Rattle.pm_items_uses.specs.Trees.{greatest, greatest_of, marked};
+ghost use Rattle.std.specs.Prelude.{◌≡◌, ◌↔◌, ◌<◌, length, map, IfOk, IsTrue};
 
 use pm_items::Items;
 use std::alloc::{AllocError, Global};
 
 /// A number, or a mark over any number of trees.
-#[derive(Debug, PartialEq, Eq, Drop)]
+#[derive(Debug, PartialEq, Eq, Hash, Drop)]
 pub enum Tree {
     Leaf(u32),
     Node(u8, Items<Tree>),
@@ -35,6 +35,20 @@ impl Tree {
         }
     }
 
+    /// Writes this mark over each.
+    #[cycle(mark)]
+    pub fn mark_all(&mut self, mark: u8)
+        ensures { self.new ≡ marked mark self.old }
+    {
+        match self {
+            Tree::Leaf(_) => {}
+            Tree::Node(old, below) => {
+                *old = mark;
+                mark_each(below, mark);
+            }
+        }
+    }
+
     /// Whether two trees are one and the same value.
     #[cycle(same)]
     pub fn same(&self, other: &Tree) -> bool
@@ -42,7 +56,8 @@ impl Tree {
     {
         match (self, other) {
             (Tree::Leaf(a), Tree::Leaf(b)) => *a == *b,
-            (Tree::Node(m, a), Tree::Node(n, b)) => *m == *n && same_all(a.as_slice(), b.as_slice()),
+            (Tree::Node(m, a), Tree::Node(n, b)) => *m == *n
+                && same_all(a.as_slice(), b.as_slice()),
             _ => false,
         }
     }
@@ -57,6 +72,15 @@ fn greatest_of(trees: &[Tree]) -> u32
         most = most.max(tree.greatest());
     }
     most
+}
+
+#[cycle(mark)]
+fn mark_each(trees: &mut Items<Tree>, mark: u8)
+    ensures { trees.new ≡ map (marked mark) trees.old }
+{
+    for at in 0..trees.len() {
+        trees.at_mut(at).mark_all(mark);
+    }
 }
 
 #[cycle(copy)]

@@ -1,7 +1,6 @@
-use Rattle.std.proofs.Common.{◌≡◌, ◌++◌, ◌∷◌, [], map, arith, ap, ◌∙◌, subst}
+use Rattle.std.proofs.Common.{arith, subst}
 use Rattle.std.proofs.lemmas.Grind.{common_steps}
 use Rattle.pm_items_uses.specs.PlainTrees.{IsCounted}
-use Rattle.pm_items_uses.specs.PlainViews.{plain_of}
 use Rattle.pm_items_uses.proofs.PlainLemmas.{pushed_counts}
 use Rattle.pm_items_uses.proofs.counted.opened.Goals as goal
 
