@@ -69,7 +69,7 @@ impl Wide {
 }
 
 /// Whether a number is below 2 to the width.
-fn fits(bits: u128, width: u8) -> bool
+pub(crate) fn fits(bits: u128, width: u8) -> bool
     requires { width ≤ 128 }
     ensures { IsTrue result ↔ (bits < 2 ^ width) }
 {
@@ -78,7 +78,7 @@ fn fits(bits: u128, width: u8) -> bool
 
 /// A number modulo 2 to the width.
 #[tactic(auto, using(std::proofs::lemmas::Nat::and_mask))]
-fn lowest(bits: u128, width: u8) -> u128
+pub(crate) fn lowest(bits: u128, width: u8) -> u128
     requires { width ≤ 128 }
     ensures { result ≡ bits % 2 ^ width }
 {
@@ -90,7 +90,7 @@ fn lowest(bits: u128, width: u8) -> u128
 }
 
 /// 2 to the width.
-fn power_of_two(width: u8) -> u128
+pub(crate) fn power_of_two(width: u8) -> u128
     requires { width < 128 }
     ensures { result ≡ 2 ^ width }
 {
