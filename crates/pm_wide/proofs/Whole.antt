@@ -1,5 +1,6 @@
 -- Laws of the ring of whole numbers that the kit doesn't state.
-use Rattle.std.proofs.Common.{◌≡◌, ℕ, ◌*◌, ap, ◌∙◌, arith}
+use Rattle.std.proofs.Common.{◌≡◌, ℕ, ◌*◌, Bool, true, false, not, refl, ap, ◌∙◌, arith}
+use Rattle.std.specs.Int.RustNames.{int_lt, int_le}
 use Rattle.std.specs.Prelude.{ℤ, pos, neg_ℤ, ◌+ℤ◌, ◌-ℤ◌, ◌*ℤ◌}
 use Rattle.std.proofs.lemmas.Int.{ints}
 use Rattle.std.proofs.Math.IntN.{*ℤ_comm}
@@ -37,3 +38,11 @@ one-mul a = omega (arith, ints)
 
 pub mul-one : (a : ℤ) → a *ℤ pos 1 ≡ a
 mul-one a = omega (arith, ints)
+
+-- at most, where not above
+pub at_most : (a b : ℤ) → not (int_lt b a) ≡ int_le a b
+at_most a b = by (int_lt b a) refl
+  where
+    by : (t : Bool) → int_lt b a ≡ t → not t ≡ int_le a b
+    by true e = omega (arith, ints)
+    by false e = omega (arith, ints)

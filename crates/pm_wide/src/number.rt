@@ -1,4 +1,4 @@
-ghost use Rattle.std.specs.Prelude.{◌≡◌, ◌≢◌, ◌<◌, ◌≤◌, ◌^◌, not, ◌↔◌, IsTrue, pos, neg_ℤ, ◌+ℤ◌, ◌-ℤ◌, ◌*ℤ◌};
+ghost use Rattle.std.specs.Prelude.{◌≡◌, ◌≢◌, ◌&&◌, MatchOption, ◌<◌, ◌≤◌, ◌^◌, not, ◌↔◌, IsTrue, pos, neg_ℤ, ◌+ℤ◌, ◌-ℤ◌, ◌*ℤ◌};
 ghost use Rattle.std.specs.Int.{int_div_euclid};
 ghost use Rattle.std.specs.Int.RustNames.{int_lt, int_le, int_div, int_rem, unsigned_abs};
 ghost use Rattle.std.specs.Option.{SomeIff};
@@ -135,6 +135,21 @@ impl Number {
                 negative: false,
                 magnitude: self.magnitude >> places,
             }
+        }
+    }
+
+    /// The number, where it is from 0 to below a bound.
+    pub fn below(&self, bound: u8) -> Option<u8>
+        ensures {
+            MatchOption result
+            (¬ IsTrue (int_le (pos 0) self.now && int_lt self.now (pos bound)))
+            (λ n. IsTrue (int_le (pos 0) self.now && int_lt self.now (pos bound)) × (n ≡ unsigned_abs self.now) × (n < bound))
+        }
+    {
+        if (!self.negative || self.magnitude == 0) && self.magnitude < bound as u128 {
+            Some(self.magnitude as u8)
+        } else {
+            None
         }
     }
 

@@ -1,7 +1,8 @@
 ghost use Rattle.std.specs.Prelude.{◌≡◌, ◌<◌, ◌≤◌, ◌^◌, ◌%◌, ◌↔◌, IsTrue};
 ghost use Rattle.std.specs.Result.{OkIff};
-ghost use Rattle.pm_wide.specs.Types.{is_type, Word};
+ghost use Rattle.pm_wide.specs.Types.{is_type, value, Word};
 
+use crate::number::Number;
 use crate::ty::IntType;
 use std::marker::Model;
 use thiserror::Error;
@@ -65,6 +66,13 @@ impl Wide {
         ensures bound { self.bits < 2 ^ self.ty.width }
     {
         self.ty
+    }
+
+    /// The whole number that it stands for.
+    pub(crate) fn value(self) -> Number
+        ensures { result ≡ value self }
+    {
+        Number::of_word(self.bits, self.ty)
     }
 }
 
