@@ -7,6 +7,7 @@ mod bitwise;
 mod divide;
 mod number;
 mod operand;
+mod operation;
 mod order;
 mod overflow;
 mod shift;
@@ -16,6 +17,7 @@ mod undefined;
 mod wide;
 
 pub use operand::Operand;
+pub use operation::op_value;
 pub use overflow::{add_overflow, mul_overflow, neg_overflow, sub_overflow};
 pub use ty::IntType;
 pub use typing::well_typed;
