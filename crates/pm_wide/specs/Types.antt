@@ -1,5 +1,5 @@
 -- Integer types, the values of a type, and the words that stand for them.
-use Rattle.std.specs.Prelude.{ℕ, ◌-◌, ◌^◌, ◌==◌, nat_lt, Bool, true, false, not, ◌&&◌, ◌||◌, if◌then◌else◌, ℤ, pos, neg_ℤ, ◌-ℤ◌}
+use Rattle.std.specs.Prelude.{ℕ, ◌-◌, ◌^◌, ◌<◌, IsTrue, ◌==◌, nat_lt, Bool, true, false, not, ◌&&◌, ◌||◌, if◌then◌else◌, ℤ, pos, neg_ℤ, ◌-ℤ◌}
 use Rattle.std.specs.Int.{int_rem_euclid}
 use Rattle.std.specs.Int.RustNames.{int_le, unsigned_abs}
 
@@ -11,6 +11,9 @@ pub record Ty : Type 0 where
 -- the eleven types: one bit without a sign, and five widths with and without
 abbrev pub is_type : ℕ → Bool → Bool
 is_type width unsigned = (width == 8 || width == 16 || width == 32 || width == 64 || width == 128) || (width == 1 && unsigned)
+
+abbrev pub IsType : Ty → Type 0
+IsType t = IsTrue (is_type t.width t.unsigned)
 
 -- the two are one type
 abbrev pub same_type : Ty → Ty → Bool
@@ -73,6 +76,10 @@ word_of t z = unsigned_abs (int_rem_euclid z (pos (2 ^ t.width)))
 pub record Word : Type 0 where
   pub bits : ℕ
   pub ty : Ty
+
+-- a number below 2 to the width of one of the eleven types
+abbrev pub IsWord : Word → Type 0
+IsWord w = (w.bits < 2 ^ w.ty.width) × IsType w.ty
 
 abbrev pub value : Word → ℤ
 value w = value_of w.ty w.bits

@@ -12,6 +12,8 @@ mod order;
 mod overflow;
 mod shift;
 mod ty;
+#[cfg(test)]
+mod tests;
 mod typing;
 mod undefined;
 mod wide;

@@ -136,3 +136,12 @@ impl IntType {
         IntType { bits: 128, unsigned: true }
     }
 }
+
+/// `_Bool`, for containers that fill free places.
+impl Default for IntType {
+    ghost is_default = { λ x. x ≡ bool_type };
+
+    fn default() -> IntType {
+        IntType::boolean()
+    }
+}

@@ -1,6 +1,6 @@
 ghost use Rattle.std.specs.Prelude.{◌≡◌, ◌<◌, ◌≤◌, ◌^◌, ◌%◌, ◌↔◌, IsTrue};
 ghost use Rattle.std.specs.Result.{OkIff};
-ghost use Rattle.pm_wide.specs.Types.{is_type, value, Word};
+ghost use Rattle.pm_wide.specs.Types.{bool_type, IsType, value, Word};
 
 use crate::number::Number;
 use crate::ty::IntType;
@@ -20,14 +20,13 @@ pub struct Wide {
 }
 
 impl Model for Wide {
-    ghost use Rattle.std.specs.Prelude.{◌<◌, ◌^◌};
-    ghost use Rattle.pm_wide.specs.Types.{Word};
+    ghost use Rattle.pm_wide.specs.Types.{Word, IsWord};
 
     ghost Value = { Word };
 
     ghost view = { λ w. record { bits = w.bits; ty = w.ty } };
 
-    ghost invariant = { λ w. w.bits < 2 ^ w.ty.width };
+    ghost invariant = { λ w. IsWord (record { bits = w.bits; ty = w.ty }) };
 
     ghost inverse = { λ w. record { bits = w.bits; ty = w.ty } };
 }
@@ -56,6 +55,7 @@ impl Wide {
     pub fn bits(self) -> u128
         ensures value { result ≡ self.bits }
         ensures bound { result < 2 ^ self.ty.width }
+        ensures known { IsType self.ty }
     {
         self.bits
     }
@@ -64,6 +64,7 @@ impl Wide {
     pub fn ty(self) -> IntType
         ensures value { result ≡ self.ty }
         ensures bound { self.bits < 2 ^ self.ty.width }
+        ensures known { IsType self.ty }
     {
         self.ty
     }
@@ -73,6 +74,15 @@ impl Wide {
         ensures { result ≡ value self }
     {
         Number::of_word(self.bits, self.ty)
+    }
+}
+
+/// The `_Bool` 0, for containers that fill free places.
+impl Default for Wide {
+    ghost is_default = { λ x. x ≡ record { bits = 0; ty = bool_type } };
+
+    fn default() -> Wide {
+        Wide::reduce(0, IntType::boolean())
     }
 }
 
