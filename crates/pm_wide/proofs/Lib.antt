@@ -1,0 +1,6 @@
+pub mod Congruence
+pub mod Results
+pub mod Values
+pub mod Whole
+pub mod Words
+pub mod Wrapping

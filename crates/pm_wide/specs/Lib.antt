@@ -1,3 +1,5 @@
+pub mod Congruence
+pub mod Operands
 pub mod Operations
-pub mod Typing
 pub mod Types
+pub mod Typing

@@ -1,5 +1,5 @@
 -- Integer types, the values of a type, and the words that stand for them.
-use Rattle.std.specs.Prelude.{ℕ, ◌-◌, ◌^◌, ◌==◌, nat_lt, Bool, true, false, not, ◌&&◌, ◌||◌, if◌then◌else◌, ℤ, pos, neg_ℤ, ◌-ℤ◌}
+use Rattle.std.specs.Prelude.{ℕ, ◌-◌, ◌^◌, ◌<◌, IsTrue, ◌==◌, nat_lt, Bool, true, false, not, ◌&&◌, ◌||◌, if◌then◌else◌, ℤ, pos, neg_ℤ, ◌-ℤ◌}
 use Rattle.std.specs.Int.{int_rem_euclid}
 use Rattle.std.specs.Int.RustNames.{int_le, unsigned_abs}
 
@@ -12,12 +12,28 @@ pub record Ty : Type 0 where
 abbrev pub is_type : ℕ → Bool → Bool
 is_type width unsigned = (width == 8 || width == 16 || width == 32 || width == 64 || width == 128) || (width == 1 && unsigned)
 
+abbrev pub IsType : Ty → Type 0
+IsType t = IsTrue (is_type t.width t.unsigned)
+
 -- the two are one type
 abbrev pub same_type : Ty → Ty → Bool
 same_type a b = (a.width == b.width) && (if a.unsigned then b.unsigned else not b.unsigned)
 
+-- their names in C
 abbrev pub bool_type : Ty
 bool_type = record { width = 1; unsigned = true }
+
+abbrev pub signed_char_type : Ty
+signed_char_type = record { width = 8; unsigned = false }
+
+abbrev pub unsigned_char_type : Ty
+unsigned_char_type = record { width = 8; unsigned = true }
+
+abbrev pub short_type : Ty
+short_type = record { width = 16; unsigned = false }
+
+abbrev pub unsigned_short_type : Ty
+unsigned_short_type = record { width = 16; unsigned = true }
 
 abbrev pub int_type : Ty
 int_type = record { width = 32; unsigned = false }
@@ -30,6 +46,12 @@ long_type = record { width = 64; unsigned = false }
 
 abbrev pub unsigned_long_type : Ty
 unsigned_long_type = record { width = 64; unsigned = true }
+
+abbrev pub int128_type : Ty
+int128_type = record { width = 128; unsigned = false }
+
+abbrev pub unsigned_int128_type : Ty
+unsigned_int128_type = record { width = 128; unsigned = true }
 
 -- the least and the greatest value of a type
 abbrev pub least : Ty → ℤ
@@ -54,6 +76,10 @@ word_of t z = unsigned_abs (int_rem_euclid z (pos (2 ^ t.width)))
 pub record Word : Type 0 where
   pub bits : ℕ
   pub ty : Ty
+
+-- a number below 2 to the width of one of the eleven types
+abbrev pub IsWord : Word → Type 0
+IsWord w = (w.bits < 2 ^ w.ty.width) × IsType w.ty
 
 abbrev pub value : Word → ℤ
 value w = value_of w.ty w.bits

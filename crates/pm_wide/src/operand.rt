@@ -1,3 +1,5 @@
+ghost use Rattle.std.specs.Prelude.{◌≡◌};
+
 use crate::ty::IntType;
 use crate::wide::Wide;
 
@@ -8,9 +10,29 @@ pub enum Operand {
     Const(Wide),
 }
 
+impl Operand {
+    ghost use Rattle.pm_wide.specs.Operands.{type_of_operand};
+
+    /// The type of its values.
+    pub fn ty(self) -> IntType
+        ensures { result ≡ type_of_operand self }
+    {
+        match self {
+            Operand::Name(_, ty) => ty,
+            Operand::Const(word) => word.ty(),
+        }
+    }
+}
+
+/// The `_Bool` 0, for containers that fill free places.
 impl Default for Operand {
-    /// An operand that fills an unused place of a `SmallVec`.
+    ghost use Rattle.std.specs.Prelude.{◌≡◌};
+    ghost use Rattle.pm_wide.specs.Types.{bool_type};
+    ghost use Rattle.pm_wide.specs.declared.operand.Operand.TheVariants.{Const};
+
+    ghost is_default = { λ x. x ≡ Const (record { bits = 0; ty = bool_type }) };
+
     fn default() -> Operand {
-        Operand::Name(0, IntType::default())
+        Operand::Const(Wide::default())
     }
 }

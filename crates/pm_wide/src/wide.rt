@@ -1,7 +1,8 @@
 ghost use Rattle.std.specs.Prelude.{◌≡◌, ◌<◌, ◌≤◌, ◌^◌, ◌%◌, ◌↔◌, IsTrue};
 ghost use Rattle.std.specs.Result.{OkIff};
-ghost use Rattle.pm_wide.specs.Types.{is_type, Word};
+ghost use Rattle.pm_wide.specs.Types.{bool_type, IsType, value, Word};
 
+use crate::number::Number;
 use crate::ty::IntType;
 use std::marker::Model;
 use thiserror::Error;
@@ -19,14 +20,13 @@ pub struct Wide {
 }
 
 impl Model for Wide {
-    ghost use Rattle.std.specs.Prelude.{◌<◌, ◌^◌};
-    ghost use Rattle.pm_wide.specs.Types.{Word};
+    ghost use Rattle.pm_wide.specs.Types.{Word, IsWord};
 
     ghost Value = { Word };
 
     ghost view = { λ w. record { bits = w.bits; ty = w.ty } };
 
-    ghost invariant = { λ w. w.bits < 2 ^ w.ty.width };
+    ghost invariant = { λ w. IsWord (record { bits = w.bits; ty = w.ty }) };
 
     ghost inverse = { λ w. record { bits = w.bits; ty = w.ty } };
 }
@@ -55,6 +55,7 @@ impl Wide {
     pub fn bits(self) -> u128
         ensures value { result ≡ self.bits }
         ensures bound { result < 2 ^ self.ty.width }
+        ensures known { IsType self.ty }
     {
         self.bits
     }
@@ -63,13 +64,30 @@ impl Wide {
     pub fn ty(self) -> IntType
         ensures value { result ≡ self.ty }
         ensures bound { self.bits < 2 ^ self.ty.width }
+        ensures known { IsType self.ty }
     {
         self.ty
+    }
+
+    /// The whole number that it stands for.
+    pub(crate) fn value(self) -> Number
+        ensures { result ≡ value self }
+    {
+        Number::of_word(self.bits, self.ty)
+    }
+}
+
+/// The `_Bool` 0, for containers that fill free places.
+impl Default for Wide {
+    ghost is_default = { λ x. x ≡ record { bits = 0; ty = bool_type } };
+
+    fn default() -> Wide {
+        Wide::reduce(0, IntType::boolean())
     }
 }
 
 /// Whether a number is below 2 to the width.
-fn fits(bits: u128, width: u8) -> bool
+pub(crate) fn fits(bits: u128, width: u8) -> bool
     requires { width ≤ 128 }
     ensures { IsTrue result ↔ (bits < 2 ^ width) }
 {
@@ -78,7 +96,7 @@ fn fits(bits: u128, width: u8) -> bool
 
 /// A number modulo 2 to the width.
 #[tactic(auto, using(std::proofs::lemmas::Nat::and_mask))]
-fn lowest(bits: u128, width: u8) -> u128
+pub(crate) fn lowest(bits: u128, width: u8) -> u128
     requires { width ≤ 128 }
     ensures { result ≡ bits % 2 ^ width }
 {
@@ -90,7 +108,7 @@ fn lowest(bits: u128, width: u8) -> u128
 }
 
 /// 2 to the width.
-fn power_of_two(width: u8) -> u128
+pub(crate) fn power_of_two(width: u8) -> u128
     requires { width < 128 }
     ensures { result ≡ 2 ^ width }
 {
