@@ -32,7 +32,8 @@ pub record Gap : Type 0 where
   pub bytes : List ℕ
   pub white : AllPass is_white bytes
 
--- white space that has to be there: before a capture that stands behind a word or a capture, and would be joined to it
+-- white space that has to be there: before a capture that stands behind a word or a capture, and
+-- would else be joined to it
 pub record Break : Type 0 where
   pub bytes : List ℕ
   pub white : AllPass is_white bytes
@@ -82,8 +83,8 @@ pub record SpellsRow (row : Row) (form : List ℕ) : Type 0 where
   pub same : IsTrue row.same ↔ (layout.left.bytes ≡ layout.right.bytes)
   pub result : IsResult row.result layout
 
--- the text, which begins at byte number at of the file, spells these rows: white space, and the forms of the rows in order, each at its
--- row's place, with white space behind each
+-- the text, which begins at byte number at of the file, spells these rows: their forms in order, each
+-- at its row's place, with white space before each and behind the last
 abbrev pub SpellsRows : ℕ → List Row → List ℕ → Type 0
 SpellsRows at [] text = AllPass is_white text
 SpellsRows at (row ∷ rows) text =

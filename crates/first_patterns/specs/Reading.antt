@@ -1,5 +1,5 @@
--- How a pattern file of the first form is read, on lists: what each function of the crate gives. That this is what FirstForm says is
--- proved for `read`.
+-- How a pattern file of the first form is read, on lists: what each private function of the crate
+-- gives. That this is what FirstForm says is proved for `read`, so a reader need not believe it.
 use Rattle.std.specs.Prelude.{◌≡◌, ℕ, zero, suc, ◌-◌, ◌==◌, ◌&&◌, ◌||◌, nat_le, if◌then◌else◌, Bool, List, [], ◌∷◌, length, take, drop, codes, Option, Some, None, Result, Ok, Err}
 use Rattle.std.specs.List.{prefix_len}
 use Rattle.std.specs.Str.{bytes_eq}

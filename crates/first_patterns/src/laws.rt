@@ -1,4 +1,5 @@
-//! What holds of pattern files of the first form. A call here does nothing: its contract is a law, which its check proves.
+//! What holds of pattern files of the first form. A call here does nothing: its contract is a law,
+//! which its check proves.
 ghost use Rattle.std.specs.Prelude.{◌≡◌, ℕ, List};
 ghost use Rattle.first_patterns.specs.declared.row.Row.{Row};
 ghost use Rattle.first_patterns.specs.FirstForm.{SpellsFile};

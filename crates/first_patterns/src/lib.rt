@@ -1,4 +1,5 @@
-//! The first form of pattern files: rows `(simplify (op X Y) Z)` of captures. It goes once whole pattern files are read.
+//! The first form of pattern files: rows `(simplify (op X Y) Z)` of captures. It goes once whole
+//! pattern files are read.
 #![tactic(auto)]
 
 mod fault;

@@ -2,7 +2,8 @@
 ghost use Rattle.std.specs.Prelude.{◌≡◌, ◌⊎◌, List, IfOk};
 ghost use Rattle.first_patterns.specs.declared.row.Row.{Row};
 ghost use Rattle.first_patterns.specs.FirstForm.{SpellsFile};
-ghost use Rattle.first_patterns.specs.Reading.{AnswersRows, Gives, side_named, pattern_at, row_at, rows_of};
+ghost use Rattle.first_patterns.specs.Reading.{AnswersRows, Gives, pattern_at, row_at, rows_of};
+ghost use Rattle.first_patterns.specs.Reading.{side_named};
 
 use crate::fault::ReadFault;
 use crate::row::{Row, Side};
@@ -92,9 +93,10 @@ fn all_rows(alloc: Global, source: &[u8]) -> Result<Items<Row>, ReadFault>
     }
 }
 
-/// The rows of a pattern file of the first form: at most 65,536 forms `(simplify (op X Y) Z)` with white space around them, and no
-/// comments. `op` is `plus`, `minus`, `mult`, `bit_and`, `bit_ior` or `bit_xor`. X, Y and Z are captures, `@` and digits, and Z is
-/// X or Y as spelled.
+/// The rows of a pattern file of the first form: at most 65,536 forms `(simplify (op X Y) Z)` with
+/// white space around them, and no comments. `op` is `plus`, `minus`, `mult`, `bit_and`, `bit_ior` or
+/// `bit_xor`. X, Y and Z are captures, `@` and digits, and Z is X or Y as spelled. White space within
+/// a form is free, but it has to stand before X and before Y.
 pub fn read(alloc: Global, source: &[u8]) -> Result<Items<Row>, ReadFault>
     // What is read is what the file spells.
     ensures found { IfOk result (λ rows. SpellsFile rows source.now) }
@@ -103,7 +105,7 @@ pub fn read(alloc: Global, source: &[u8]) -> Result<Items<Row>, ReadFault>
     ensures only { (rows : List Row) → SpellsFile rows source.now
         → (result ≡ Ok rows) ⊎ (result ≡ Err ReadFault.Memory) }
 
-    // A file is not of the first form only if it spells no rows at all.
+    // A file is refused as not of the first form only if it spells no rows at all.
     ensures refused { result ≡ Err ReadFault.NotFirst → (rows : List Row) → ¬ (SpellsFile rows source.now) }
 {
     all_rows(alloc, source)

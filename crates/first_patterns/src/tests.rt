@@ -27,7 +27,7 @@ fn accepted(rt: HostRuntime) -> Result<(), Fail> {
     let one = [row(0, Code::Plus, false, Side::Left)];
     reads(&rt, alloc, b"(simplify (plus @0 @1) @0)", &one)?;
 
-    // White space may stand between all tokens, and is needed only before the captures of the pattern.
+    // White space may stand between all tokens, and is needed only before the pattern's captures.
     let close = [
         row(0, Code::Minus, true, Side::Left),
         row(25, Code::Mult, false, Side::Right),

@@ -1,7 +1,8 @@
 //! The tokens of the first form, each read from the front of some bytes, with the bytes behind it.
 ghost use Rattle.std.specs.Prelude.{◌≡◌, codes};
 ghost use Rattle.first_patterns.specs.FirstForm.{is_white, is_first_code};
-ghost use Rattle.first_patterns.specs.Reading.{Gives, past, strip, token_at, code_at, capture_at, apart_capture_at};
+ghost use Rattle.first_patterns.specs.Reading.{Gives, past, strip, token_at};
+ghost use Rattle.first_patterns.specs.Reading.{code_at, capture_at, apart_capture_at};
 
 use crate::kind::{Kind, run};
 use pm_ops::Code;
@@ -69,7 +70,8 @@ pub fn capture_at(bytes: &[u8]) -> Option<(&[u8], &[u8])>
     }
 }
 
-/// The digits of a capture behind white space, which keeps it apart from the word or the capture before it.
+/// The digits of a capture behind white space, which keeps it apart from the word or the capture
+/// before it.
 #[tactic(auto, unfolding(crate::specs::Reading::apart_capture_at))]
 pub fn apart_capture_at(bytes: &[u8]) -> Option<(&[u8], &[u8])>
     ensures { Gives (λ x. (x.0.now, x.1.now)) result (apart_capture_at bytes.now) }

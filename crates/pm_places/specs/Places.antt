@@ -10,6 +10,7 @@ is_line_feed byte = byte == 10
 abbrev pub line_of : List ℕ → ℕ → ℕ
 line_of source at = 1 + count_by is_line_feed (take at source)
 
--- one more than the bytes between the last line feed before byte number at, or the beginning where there is none, and that byte
+-- one more than the bytes from the last line feed before byte number at, or from the beginning where
+-- there is none, up to that byte
 abbrev pub column_of : List ℕ → ℕ → ℕ
 column_of source at = 1 + length (after_last is_line_feed (take at source))

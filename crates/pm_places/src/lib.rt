@@ -1,11 +1,12 @@
-//! Places in a text for people: lines and columns, as faults of pattern files and GIMPLE files name them.
+//! Places in a text for people: lines and columns, as the faults of pattern files and GIMPLE files
+//! name them.
 #![tactic(auto)]
 
 ghost use Rattle.std.specs.Prelude.{◌≡◌, ◌^◌, ◌<◌, ◌≤◌, length};
 ghost use Rattle.pm_places.specs.Places.{line_of, column_of};
 
-/// The line and the column of byte number `at` of a text, both counted from 1. A line ends with a line feed, and columns count
-/// bytes. The place right behind the last byte has them too.
+/// The line and the column of byte number `at` of a text, both counted from 1. A line ends with a line
+/// feed, and columns count bytes. The place right behind the last byte has them too. Takes no memory.
 pub fn line_column(source: &[u8], at: usize) -> (u32, u32)
     requires within { at ≤ length source.now }
     requires short { length source.now < 2 ^ 31 }
