@@ -1,10 +1,10 @@
 -- The operation table: the value of each operation on whole numbers without bound, or none where it is undefined.
-use Rattle.std.specs.Prelude.{ℕ, ◌-◌, ◌^◌, ◌==◌, Bool, not, ◌&&◌, ◌||◌, if◌then◌else◌, Option, Some, None, List, [], ◌∷◌, ℤ, pos, neg_ℤ, ◌+ℤ◌, ◌-ℤ◌, ◌*ℤ◌, bit_and, bit_or, bit_xor}
+use Rattle.std.specs.Prelude.{ℕ, ◌-◌, ◌^◌, ◌==◌, Bool, not, ◌&&◌, ◌||◌, if◌then◌else◌, Option, Some, None, List, [], ◌∷◌, ℤ, pos, negsuc, neg_ℤ, ◌+ℤ◌, ◌-ℤ◌, ◌*ℤ◌, bit_and, bit_or, bit_xor}
 use Rattle.std.specs.Int.{int_div_euclid, int_min, int_max}
 use Rattle.std.specs.Int.RustNames.{int_lt, int_le, int_div, int_rem, unsigned_abs}
 use Rattle.pm_ops.specs.declared.code.Code.{Code}
 use Rattle.pm_ops.specs.declared.code.Code.TheVariants.{Convert, Plus, Minus, Mult, TruncDiv, TruncMod, Negate, Abs, Absu, BitAnd, BitIor, BitXor, BitNot, Lshift, Rshift, Min, Max, Eq, Ne, Lt, Le, Gt, Ge, Cond}
-use Rattle.pm_wide.specs.Types.{Ty, Word, value, word, in_range, bool_type}
+use Rattle.pm_wide.specs.Types.{Ty, Word, least, value, word, in_range, bool_type}
 
 -- an exact result: reduced where the type has no sign, undefined out of range where it has one
 abbrev pub exact : Ty → ℤ → Option Word
@@ -27,6 +27,10 @@ int_same x y = int_le x y && int_le y x
 -- the quotient toward zero is there: the divisor isn't 0, and the quotient is a value of the type
 abbrev pub divides : Ty → ℤ → ℤ → Bool
 divides t x y = not (int_same y (pos 0)) && in_range t (int_div x y)
+
+-- the one quotient that leaves a signed type: of the least value by -1
+abbrev pub least_by_minus_one : Ty → ℤ → ℤ → Bool
+least_by_minus_one t x y = not t.unsigned && (int_same x (least t) && int_same y (negsuc 0))
 
 -- a count of places is there: from 0 to below the width of what is shifted
 abbrev pub shifts : Ty → ℤ → Bool

@@ -1,15 +1,15 @@
 //! What the operation table implies, for every type and word. The functions do nothing: their contracts are the
 //! laws.
-ghost use Rattle.std.specs.Prelude.{◌≡◌, ◌<◌, ◌≤◌, ◌^◌, IsTrue, true, false, ℕ, ℤ, pos, negsuc, neg_ℤ, ◌+ℤ◌, ◌-ℤ◌, ◌*ℤ◌, List, [], ◌∷◌, map, Some};
+ghost use Rattle.std.specs.Prelude.{◌≡◌, ◌<◌, ◌≤◌, ◌^◌, IsTrue, false, not, ◌&&◌, ℕ, ℤ, pos, negsuc, neg_ℤ, ◌+ℤ◌, ◌-ℤ◌, ◌*ℤ◌, List, [], ◌∷◌, map, Some};
 ghost use Rattle.std.specs.Int.{int_div_euclid, int_min, int_max};
 ghost use Rattle.std.specs.Int.RustNames.{int_div, int_rem, unsigned_abs};
 ghost use Rattle.std.specs.List.{All};
 ghost use Rattle.pm_ops.specs.declared.code.Code.{Code};
 ghost use Rattle.pm_ops.specs.declared.code.Code.TheVariants.{Convert, TruncDiv, TruncMod, Absu, BitNot, Lshift, Rshift, Min, Max};
 ghost use Rattle.pm_wide.specs.Congruence.{Congruent};
-ghost use Rattle.pm_wide.specs.Types.{Ty, Word, IsType, IsWord, in_range, value, word};
+ghost use Rattle.pm_wide.specs.Types.{Ty, Word, IsType, IsWord, in_range, least, value, word};
 ghost use Rattle.pm_wide.specs.Typing.{well_typed_operation};
-ghost use Rattle.pm_wide.specs.Operations.{exact, operation_value};
+ghost use Rattle.pm_wide.specs.Operations.{divides, exact, int_same, least_by_minus_one, operation_value};
 
 /// A type has at least one bit and at most 128.
 pub fn types_have_bits()
@@ -57,6 +57,17 @@ pub fn exact_results()
     ensures congruent { (t : Ty) (z : ℤ) (r : Word) → exact t z ≡ Some r → Congruent t.width (value r) z }
     ensures equal { (t : Ty) (z : ℤ) (r : Word) → IsType t → t.unsigned ≡ false → exact t z ≡ Some r → IsTrue (in_range t z) × (value r ≡ z) }
     ensures defined { (t : Ty) (z : ℤ) → IsTrue (in_range t z) → exact t z ≡ Some (word t z) }
+{}
+
+/// Where a signed type has no result: the least value has no negative, no size and no quotient by -1. By 0 there is none in
+/// any type.
+pub fn missing_results()
+    ensures negative { (t : Ty) (x : ℤ) → IsType t → IsTrue (in_range t x) → t.unsigned ≡ false →
+        in_range t (neg_ℤ x) ≡ not (int_same x (least t)) }
+    ensures size { (t : Ty) (x : ℤ) → IsType t → IsTrue (in_range t x) → t.unsigned ≡ false →
+        in_range t (pos (unsigned_abs x)) ≡ not (int_same x (least t)) }
+    ensures quotient { (t : Ty) (x y : ℤ) → IsType t → IsTrue (in_range t x) → IsTrue (in_range t y) →
+        divides t x y ≡ (not (int_same y (pos 0)) && not (least_by_minus_one t x y)) }
 {}
 
 /// Quotients and what they leave are exact.
