@@ -1,7 +1,7 @@
 -- Where an operation has no value, in the words of the operation table.
-use Rattle.std.proofs.Common.{◌≡◌, ℕ, zero, suc, ◌+◌, ◌-◌, ◌*◌, ◌/◌, ◌%◌, ◌^◌, ◌≤◌, ◌<◌, Bool, true, false, not, cond, ◌&&◌, ◌||◌, refl, sym, ap, subst, ◌∙◌, ◌⊎◌, inl, inr, arith}
+use Rattle.std.proofs.Common.{◌≡◌, ℕ, zero, suc, ◌+◌, ◌-◌, ◌*◌, ◌^◌, ◌≤◌, ◌<◌, Bool, true, false, not, cond, ◌&&◌, refl, sym, ap, subst, ◌∙◌, ◌⊎◌, inl, inr, arith}
 use Rattle.std.specs.Prelude.{ℤ, pos, negsuc, neg_ℤ, ◌≤ℤ◌, IsTrue}
-use Rattle.std.specs.Int.RustNames.{int_lt, int_le, int_div, unsigned_abs}
+use Rattle.std.specs.Int.RustNames.{int_le, int_div, unsigned_abs}
 use Rattle.std.proofs.lemmas.Bool.{and_parts, and_from}
 use Rattle.std.proofs.lemmas.Bool.Decides.{nat_tests}
 use Rattle.std.proofs.lemmas.Int.{ints}
@@ -9,7 +9,7 @@ use Rattle.std.proofs.lemmas.Nat.{div-add-mod', pow_pos}
 use Rattle.std.proofs.Math.Nat.{div-le_self}
 use Rattle.std.proofs.Math.Pow.{pow_mono}
 use borrow.Author.Differences.{up, down}
-use Rattle.pm_wide.specs.Types.{Ty, IsType, is_type, in_range, least, greatest}
+use Rattle.pm_wide.specs.Types.{Ty, IsType, in_range, least, greatest}
 use Rattle.pm_wide.specs.Operations.{divides, int_same, least_by_minus_one}
 use Rattle.pm_wide.proofs.Words.{bounds, within}
 use Rattle.pm_wide.proofs.Values.{between_in_range}

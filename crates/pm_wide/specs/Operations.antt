@@ -1,6 +1,7 @@
--- The operation table: the value of each operation on whole numbers without bound, or none where it is undefined.
--- `int_div` rounds toward zero and `int_rem` is what it leaves; `int_div_euclid` by a power of two rounds down.
--- Operations on the bits of words are those of the words as numbers.
+-- The operation table: the value of each operation on whole numbers without bound, or none where
+-- it is undefined. `int_div` rounds toward zero and `int_rem` is what it leaves; `int_div_euclid`
+-- by a power of two rounds down. Operations on the bits of words are those of the words as
+-- numbers.
 use Rattle.std.specs.Prelude.{ℕ, ◌-◌, ◌^◌, ◌==◌, Bool, not, ◌&&◌, ◌||◌, if◌then◌else◌, Option, Some, None, List, [], ◌∷◌, ℤ, pos, negsuc, neg_ℤ, ◌+ℤ◌, ◌-ℤ◌, ◌*ℤ◌, bit_and, bit_or, bit_xor}
 use Rattle.std.specs.Int.{int_div_euclid, int_min, int_max}
 use Rattle.std.specs.Int.RustNames.{int_lt, int_le, int_div, int_rem, unsigned_abs}
