@@ -13,7 +13,7 @@ use Rattle.gim_ast.specs.Functions.{first_where, row_of}
 use Rattle.gim_ast.specs.WellFormed.{rises}
 use Rattle.gim_ast.specs.Printing.{names_rise}
 
-and_left : (a b : Bool) → (a && b) ≡ true → a ≡ true
+pub and_left : (a b : Bool) → (a && b) ≡ true → a ≡ true
 and_left true b e = refl
 and_left false b e = cc
 
