@@ -54,7 +54,7 @@ type_text t = if t.unsigned then unsigned_type_text t.width else signed_type_tex
 
 -- ---- names
 
--- no name has two rows, and they rise by version: so it is in a well-formed function
+-- the rows of names rise by version, so that none has two: so it is in a well-formed function
 abbrev pub names_rise : Function → Bool
 names_rise f = rises (map (λ (row : NameRow). row.version) f.names)
 
@@ -104,14 +104,15 @@ unfoldable pub operand_text : Function → Operand → List ℕ
 operand_text f (Name x t) = used_text f x
 operand_text f (Const w) = constant_text w
 
--- under a unary minus: `-5` is a constant there, and `-_Literal (int) 5` an operation
+-- under a unary minus: there `-5` would be a constant, and `-_Literal (int) 5` is an operation on one
 unfoldable pub negated_text : Function → Operand → List ℕ
 negated_text f (Name x t) = used_text f x
 negated_text f (Const w) = literal_text w
 
 -- ---- right sides
 
--- what stands before the operand of an operation on one. What is printed for another operation doesn't matter
+-- what stands before the operand of an operation on one. What is printed for another operation
+-- doesn't matter
 unfoldable pub prefix_text : Ty → Code → List ℕ
 prefix_text t Convert = codes "(" ++ type_text t ++ codes ") "
 prefix_text t Negate = codes "-"
@@ -157,7 +158,8 @@ binary_text f code a b = infix_text f code a b
 abbrev pub ternary_text : Function → Operand → Operand → Operand → List ℕ
 ternary_text f a b c = operand_text f a ++ codes " ? " ++ operand_text f b ++ codes " : " ++ operand_text f c
 
--- an operation whose result has that type. What is printed for another number of operands than 1 to 3 doesn't matter
+-- an operation whose result has that type. What is printed for another number of operands than
+-- 1 to 3 doesn't matter
 unfoldable pub operation_text : Function → Ty → Code → List Operand → List ℕ
 operation_text f t code (a ∷ []) = unary_text f t code a
 operation_text f t code (a ∷ b ∷ []) = binary_text f code a b

@@ -1,7 +1,7 @@
 //! Functions as GIMPLE text, as GCC's front end reads it under `-fgimple`.
 //!
-//! `print` gives the text of whole functions. The other calls append to a text what its reports name: a
-//! number, and a name as it is assigned.
+//! `print` gives the text of whole functions. The other calls append a part to a text, for reports:
+//! a number, and a name as it stands where it is assigned.
 #![tactic(auto)]
 
 ghost use Rattle.std.specs.Prelude.{◌≡◌, IfOk, IsTrue, All};
@@ -21,7 +21,9 @@ use pm_items::Items;
 use pm_ops::OutOfMemory;
 use std::alloc::Global;
 
-/// The text of the functions in order, with an empty line between two. Each function's `names` rise by version.
+/// The text of the functions in order, with an empty line between two.
+///
+/// The rows of each function's `names` rise by version, so that names are found by binary search.
 #[tactic(auto, unfolding(gim_ast::specs::Printing::text))]
 pub fn print(alloc: Global, functions: &[Function]) -> Result<Vec<u8>, OutOfMemory>
     requires { All (λ f. IsTrue (names_rise f)) functions.now }

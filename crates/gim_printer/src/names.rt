@@ -8,7 +8,9 @@ use pm_items::Items;
 use pm_ops::OutOfMemory;
 use pm_wide::IntType;
 
-/// Appends the name `BASE_VERSION`, as it stands where it is assigned. After an `Err` the text may have a part of it.
+/// Appends the name `BASE_VERSION`, as it stands where it is assigned.
+///
+/// After an `Err` a part of it may stand at the end of the text.
 pub fn push_name(out: &mut Items<u8>, base: &[u8], version: u32) -> Result<(), OutOfMemory>
     ensures { OnOk result (out.new ≡ out.old ++ name_text base.now version) }
 {

@@ -44,7 +44,7 @@ fn push_operation(
     }
 }
 
-/// Appends an operation on one operand: a sign or a word, or a type in parentheses, and the operand.
+/// Appends an operation on one operand.
 fn push_unary(
     out: &mut Items<u8>,
     function: &Function,
@@ -159,7 +159,8 @@ fn push_ternary(
     other: &Operand,
 ) -> Result<(), OutOfMemory>
     requires { IsTrue (names_rise function.now) }
-    ensures { OnOk result (out.new ≡ out.old ++ ternary_text function.now condition.now chosen.now other.now) }
+    ensures { OnOk result
+        (out.new ≡ out.old ++ ternary_text function.now condition.now chosen.now other.now) }
 {
     push_operand(out, function, condition)?;
     out.extend_from_slice(b" ? ")?;

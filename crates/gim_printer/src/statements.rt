@@ -31,7 +31,8 @@ fn push_phi_arguments(
     arguments: &[(u32, Operand)],
 ) -> Result<(), OutOfMemory>
     requires { IsTrue (names_rise function.now) }
-    ensures { OnOk result (out.new ≡ out.old ++ listed (phi_argument_text function.now) arguments.now) }
+    ensures { OnOk result
+        (out.new ≡ out.old ++ listed (phi_argument_text function.now) arguments.now) }
 {
     if let [first, rest @ ..] = arguments {
         push_phi_argument(out, function, first)?;
@@ -104,7 +105,8 @@ fn push_condition(
     right: &Operand,
 ) -> Result<(), OutOfMemory>
     requires { IsTrue (names_rise function.now) }
-    ensures { OnOk result (out.new ≡ out.old ++ condition_line function.now code left.now right.now) }
+    ensures { OnOk result
+        (out.new ≡ out.old ++ condition_line function.now code left.now right.now) }
 {
     out.extend_from_slice(b"  if (")?;
     push_infix(out, function, code, left, right)?;
