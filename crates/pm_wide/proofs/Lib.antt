@@ -1,0 +1,4 @@
+pub mod Congruence
+pub mod Whole
+pub mod Words
+pub mod Wrapping

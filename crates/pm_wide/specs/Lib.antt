@@ -1,3 +1,4 @@
+pub mod Congruence
 pub mod Operations
 pub mod Typing
 pub mod Types

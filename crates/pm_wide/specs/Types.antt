@@ -16,8 +16,21 @@ is_type width unsigned = (width == 8 || width == 16 || width == 32 || width == 6
 abbrev pub same_type : Ty → Ty → Bool
 same_type a b = (a.width == b.width) && (if a.unsigned then b.unsigned else not b.unsigned)
 
+-- their names in C
 abbrev pub bool_type : Ty
 bool_type = record { width = 1; unsigned = true }
+
+abbrev pub signed_char_type : Ty
+signed_char_type = record { width = 8; unsigned = false }
+
+abbrev pub unsigned_char_type : Ty
+unsigned_char_type = record { width = 8; unsigned = true }
+
+abbrev pub short_type : Ty
+short_type = record { width = 16; unsigned = false }
+
+abbrev pub unsigned_short_type : Ty
+unsigned_short_type = record { width = 16; unsigned = true }
 
 abbrev pub int_type : Ty
 int_type = record { width = 32; unsigned = false }
@@ -30,6 +43,12 @@ long_type = record { width = 64; unsigned = false }
 
 abbrev pub unsigned_long_type : Ty
 unsigned_long_type = record { width = 64; unsigned = true }
+
+abbrev pub int128_type : Ty
+int128_type = record { width = 128; unsigned = false }
+
+abbrev pub unsigned_int128_type : Ty
+unsigned_int128_type = record { width = 128; unsigned = true }
 
 -- the least and the greatest value of a type
 abbrev pub least : Ty → ℤ

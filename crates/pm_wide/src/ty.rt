@@ -1,6 +1,6 @@
 ghost use Rattle.std.specs.Prelude.{◌≡◌, IsTrue};
 ghost use Rattle.std.specs.Option.{SomeIff};
-ghost use Rattle.pm_wide.specs.Types.{Ty, is_type};
+ghost use Rattle.pm_wide.specs.Types.{Ty, is_type, bool_type, signed_char_type, unsigned_char_type, short_type, unsigned_short_type, int_type, unsigned_int_type, long_type, unsigned_long_type, int128_type, unsigned_int128_type};
 
 use std::marker::Model;
 
@@ -57,6 +57,83 @@ impl IntType {
         ensures known { IsTrue (is_type self.width self.unsigned) }
     {
         self.unsigned
+    }
+
+    /// `_Bool`.
+    pub fn boolean() -> IntType
+        ensures { result ≡ bool_type }
+    {
+        IntType { bits: 1, unsigned: true }
+    }
+
+    /// `signed char`.
+    pub fn signed_char() -> IntType
+        ensures { result ≡ signed_char_type }
+    {
+        IntType { bits: 8, unsigned: false }
+    }
+
+    /// `unsigned char`.
+    pub fn unsigned_char() -> IntType
+        ensures { result ≡ unsigned_char_type }
+    {
+        IntType { bits: 8, unsigned: true }
+    }
+
+    /// `short`.
+    pub fn short() -> IntType
+        ensures { result ≡ short_type }
+    {
+        IntType { bits: 16, unsigned: false }
+    }
+
+    /// `unsigned short`.
+    pub fn unsigned_short() -> IntType
+        ensures { result ≡ unsigned_short_type }
+    {
+        IntType { bits: 16, unsigned: true }
+    }
+
+    /// `int`.
+    pub fn int() -> IntType
+        ensures { result ≡ int_type }
+    {
+        IntType { bits: 32, unsigned: false }
+    }
+
+    /// `unsigned int`.
+    pub fn unsigned_int() -> IntType
+        ensures { result ≡ unsigned_int_type }
+    {
+        IntType { bits: 32, unsigned: true }
+    }
+
+    /// `long`.
+    pub fn long() -> IntType
+        ensures { result ≡ long_type }
+    {
+        IntType { bits: 64, unsigned: false }
+    }
+
+    /// `unsigned long`.
+    pub fn unsigned_long() -> IntType
+        ensures { result ≡ unsigned_long_type }
+    {
+        IntType { bits: 64, unsigned: true }
+    }
+
+    /// `__int128`.
+    pub fn int128() -> IntType
+        ensures { result ≡ int128_type }
+    {
+        IntType { bits: 128, unsigned: false }
+    }
+
+    /// `unsigned __int128`.
+    pub fn unsigned_int128() -> IntType
+        ensures { result ≡ unsigned_int128_type }
+    {
+        IntType { bits: 128, unsigned: true }
     }
 }
 

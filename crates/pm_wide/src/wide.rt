@@ -1,7 +1,8 @@
 ghost use Rattle.std.specs.Prelude.{◌≡◌, ◌<◌, ◌≤◌, ◌^◌, ◌%◌, ◌↔◌, IsTrue};
 ghost use Rattle.std.specs.Result.{OkIff};
-ghost use Rattle.pm_wide.specs.Types.{is_type, Word};
+ghost use Rattle.pm_wide.specs.Types.{is_type, value, Word};
 
+use crate::number::Number;
 use crate::ty::IntType;
 use std::marker::Model;
 use thiserror::Error;
@@ -66,10 +67,17 @@ impl Wide {
     {
         self.ty
     }
+
+    /// The whole number that it stands for.
+    pub(crate) fn value(self) -> Number
+        ensures { result ≡ value self }
+    {
+        Number::of_word(self.bits, self.ty)
+    }
 }
 
 /// Whether a number is below 2 to the width.
-fn fits(bits: u128, width: u8) -> bool
+pub(crate) fn fits(bits: u128, width: u8) -> bool
     requires { width ≤ 128 }
     ensures { IsTrue result ↔ (bits < 2 ^ width) }
 {
@@ -78,7 +86,7 @@ fn fits(bits: u128, width: u8) -> bool
 
 /// A number modulo 2 to the width.
 #[tactic(auto, using(std::proofs::lemmas::Nat::and_mask))]
-fn lowest(bits: u128, width: u8) -> u128
+pub(crate) fn lowest(bits: u128, width: u8) -> u128
     requires { width ≤ 128 }
     ensures { result ≡ bits % 2 ^ width }
 {
@@ -90,7 +98,7 @@ fn lowest(bits: u128, width: u8) -> u128
 }
 
 /// 2 to the width.
-fn power_of_two(width: u8) -> u128
+pub(crate) fn power_of_two(width: u8) -> u128
     requires { width < 128 }
     ensures { result ≡ 2 ^ width }
 {
