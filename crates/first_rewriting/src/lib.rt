@@ -16,3 +16,6 @@ mod substitution;
 
 pub use firing::{Firing, Site, What};
 pub use rewriting::{Simplified, simplify};
+
+#[cfg(test)]
+mod tests;
