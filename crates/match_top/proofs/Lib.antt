@@ -1,4 +1,5 @@
 pub mod AnswerLemmas
+pub mod FirstFormLemmas
 pub mod GivenLemmas
 pub mod NameLemmas
 pub mod RowLemmas

@@ -6,7 +6,7 @@ use Rattle.gim_ast.specs.Rewriting.{Rewritten, rewriting_of}
 use Rattle.first_patterns.specs.declared.row.Row.{Row}
 use Rattle.first_patterns.specs.FirstForm.{SpellsFile}
 use Rattle.first_patterns.specs.Matching.{row_at}
-use Rattle.first_gimple.specs.FirstForm.{IsFirstForm}
+use Rattle.first_gimple.specs.Meaning.{IsFirstForm}
 use Rattle.match_top.specs.Words.{Command, Simplify}
 use Rattle.match_top.specs.Report.{line, report_of}
 

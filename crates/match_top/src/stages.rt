@@ -2,7 +2,7 @@
 ghost use Rattle.std.specs.Prelude.{◌≡◌, ◌⊎◌, ℕ, List, [], ◌∷◌, if◌then◌else◌, ◌<◌, ◌≤◌, ◌^◌, length, All, IfOk, IsTrue};
 ghost use Rattle.gim_ast.specs.Printing.{names_rise, text};
 ghost use Rattle.first_patterns.specs.FirstForm.{SpellsFile};
-ghost use Rattle.first_gimple.specs.FirstForm.{IsFirstForm};
+ghost use Rattle.first_gimple.specs.Meaning.{IsFirstForm};
 ghost use Rattle.first_rewriting.specs.Typed.{IsTyped};
 ghost use Rattle.match_top.specs.Answers.{Bytes, ReadsPatterns, ReadsFunction, simplified, written};
 ghost use Rattle.match_top.specs.Stages.{answer_of, stage_of, given_by};
@@ -55,19 +55,21 @@ pub fn read_patterns(
 }
 
 /// The function of the GIMPLE file of this name, by what came of reading it.
+#[tactic(auto, using(crate::proofs::FirstFormLemmas::first_form_typed, crate::proofs::FirstFormLemmas::first_form_rises))]
 pub fn read_function(
     alloc: Global,
     name: &str,
     given: Result<Vec<u8>, ReadFault>,
 ) -> Result<Function, Stop>
     ensures reads { ReadsFunction name.now (given_by given) (stage_of (λ f. f) result) }
-    ensures given { IfOk result (λ f. (source : List ℕ) × (given_by given ≡ Bytes source) × IsFirstForm source f) }
+    ensures typed { IfOk result IsTyped }
+    ensures rise { IfOk result (λ f. IsTrue (names_rise f)) }
 {
     match given {
         Ok(source) => match first_gimple::read(alloc, &source) {
             Ok(function) => Ok(function),
-            Err(first_gimple::ReadFault::NotFirst) => Err(refused(alloc, 4, "gimple: NotYet", "")),
-            Err(first_gimple::ReadFault::Memory) => Err(Stop::Memory),
+            Err(first_gimple::FirstFault::NotFirst) => Err(refused(alloc, 4, "gimple: NotYet", "")),
+            Err(first_gimple::FirstFault::Memory) => Err(Stop::Memory),
         },
         Err(ReadFault::TooLong) => Err(refused(alloc, 4, "gimple:1:1: TooLarge", "")),
         Err(ReadFault::Missing) => Err(refused(alloc, 5, "missing: ", name)),
