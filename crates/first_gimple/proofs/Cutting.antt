@@ -1,12 +1,12 @@
 -- The tokens of a text are those that it is cut into, and no others.
-use Rattle.std.proofs.Common.{◌≡◌, ◌≢◌, ℕ, zero, suc, ◌+◌, ◌<◌, ◌≤◌, Bool, true, false, cond, List, [], ◌∷◌, ◌++◌, length, get_or, take, drop, drop-cons, add-one, refl, sym, ap, subst, ◌∙◌, arith}
+use Rattle.std.proofs.Common.{◌≡◌, ℕ, zero, suc, ◌+◌, ◌<◌, ◌≤◌, Bool, true, false, cond, List, [], ◌∷◌, ◌++◌, length, get_or, take, drop, drop-cons, add-one, refl, sym, ap, ◌∙◌, arith}
 use Rattle.std.proofs.lemmas.Bool.Decides.{nat_tests}
-use Rattle.std.specs.Prelude.{IsTrue, max, ◌==◌, not, ◌&&◌, ◌||◌}
+use Rattle.std.specs.Prelude.{max, ◌==◌, not, ◌&&◌, ◌||◌}
 use Rattle.std.specs.List.{list_all}
 use Rattle.std.proofs.lemmas.Bool.{and_parts, and_from, not_from_false, eqb-true, false≢true}
 use Rattle.std.proofs.lemmas.List.{nil_from_length}
 use Rattle.gim_ast.specs.Identifiers.{is_word_byte}
-use Rattle.first_gimple.specs.Tokens.{Token, is_space, is_gap, is_mark, is_token, begins_with_word_byte, ends_before, SpellsTokens}
+use Rattle.first_gimple.specs.Tokens.{Token, is_space, is_gap, is_token, begins_with_word_byte, ends_before, SpellsTokens}
 use Rattle.first_gimple.specs.Pieces.{lengthened, tokens_of}
 
 pub cut_space : (b : ℕ) (bytes : List ℕ) → is_space b ≡ true → tokens_of (b ∷ bytes) ≡ tokens_of bytes

@@ -10,3 +10,4 @@ pub mod Words
 pub mod Lines
 pub mod Whole
 pub mod Judging
+pub mod OneKind

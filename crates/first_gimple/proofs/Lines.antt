@@ -1,18 +1,15 @@
 -- Lines are read as what is spelled, and what is spelled is read.
-use Rattle.std.proofs.Common.{◌≡◌, ◌≢◌, ◌⊎◌, ℕ, zero, suc, ◌+◌, ◌-◌, ◌^◌, ◌<◌, ◌≤◌, Bool, true, false, cond, List, [], ◌∷◌, ◌++◌, length, codes, Option, Some, None, refl, sym, ap, subst, ◌∙◌, arith, inl, inr}
-use Rattle.std.specs.Prelude.{IsTrue}
+use Rattle.std.proofs.Common.{◌≡◌, ℕ, List, [], ◌∷◌, ◌++◌, codes, Option, Some, None, refl, sym, ap, subst, ◌∙◌, arith}
 use Rattle.std.specs.Fmt.{decimal}
-use Rattle.pm_ops.specs.declared.code.Code.{Code}
 use Rattle.gim_ast.specs.Identifiers.{anonymous}
-use Rattle.gim_ast.specs.Numbers.{number_below, name_below}
-use Rattle.gim_ast.proofs.NumberLemmas.{number_below_is, number_below-decimal, name_below_is, name_below-anonymous}
-use Rattle.first_gimple.specs.declared.draft.Draft.{Draft}
+use Rattle.gim_ast.specs.Numbers.{name_below}
+use Rattle.gim_ast.proofs.NumberLemmas.{name_below_is, name_below-anonymous}
 use Rattle.first_gimple.specs.declared.draft.Line.{Line}
 use Rattle.first_gimple.specs.declared.draft.Taken.{Taken}
 use Rattle.first_gimple.specs.declared.draft.Taken.TheVariants.{Local, Initial, Literal}
 use Rattle.first_gimple.specs.Tokens.{Token}
-use Rattle.first_gimple.specs.Reading.{then_read, or_read, fixed, token_at, versions, literal_of, local_of, code_of, meant_at, type_at, mark_at, taken_from, taken_at, line_at, with_first, ended, items_at, local_at, param_at, further_param_at, params_behind, params_at, head_at, number_at, end_at, signature_at, draft_at}
-use Rattle.first_gimple.specs.Spelling.{operator_of, SpellsTaken, SpellsLine, SpellsLocal, SpellsFurther, SpellsItems, SpellsParams, SpellsDraft}
+use Rattle.first_gimple.specs.Reading.{versions, literal_of, local_of, code_of, taken_from, taken_at, line_at, local_at, param_at, further_param_at}
+use Rattle.first_gimple.specs.Spelling.{SpellsTaken, SpellsLine, SpellsLocal, SpellsFurther}
 use Rattle.first_gimple.proofs.Words.{then_some, then_here, some_is, fixed_is, fixed_here, token_is, token_here, meant_is, meant_here, type_is, type_here, mark_is, mark_here, local_is, local_here, literal_is, literal_here, no_literal_in_name, code_is, code_here}
 
 -- ---- operands

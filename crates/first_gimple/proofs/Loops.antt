@@ -1,10 +1,10 @@
 -- Items read one after the other, as a loop does.
-use Rattle.std.proofs.Common.{◌≡◌, ℕ, zero, suc, ◌-◌, ◌+◌, ◌≤◌, ◌<◌, List, [], ◌∷◌, ◌++◌, Option, Some, None, refl, sym, ap, ◌∙◌, append_assoc, arith}
+use Rattle.std.proofs.Common.{◌≡◌, ℕ, suc, ◌-◌, ◌+◌, ◌≤◌, ◌<◌, List, [], ◌∷◌, ◌++◌, Option, Some, None, refl, sym, ap, ◌∙◌, append_assoc, arith}
 use Rattle.std.proofs.lemmas.List.{append-nil}
 use Rattle.first_gimple.specs.declared.fault.FirstFault.{FirstFault}
 use Rattle.first_gimple.specs.declared.fault.FirstFault.TheVariants.{NotFirst, Memory}
 use Rattle.first_gimple.specs.Tokens.{Token}
-use Rattle.first_gimple.specs.Reading.{Fails, then_read, or_read, fixed, with_first, ended, items_at}
+use Rattle.first_gimple.specs.Reading.{Fails, then_read, or_read, fixed, with_first, items_at}
 
 -- what was read before, and what is still read
 abbrev pub with_front : {X : Type 0} → List X → Option (List X × List Token) → Option (List X × List Token)

@@ -1,9 +1,9 @@
 -- The names of a function are determined by the rows that stand in its text, and merging finds them.
-use Rattle.std.proofs.Common.{◌≡◌, ◌≢◌, ◌⊎◌, ℕ, zero, suc, ◌+◌, ◌<◌, ◌≤◌, Bool, true, false, cond, List, [], ◌∷◌, ◌++◌, length, get_or, map, Contains, All, Option, Some, None, Result, Ok, Err, refl, sym, ap, subst, ◌∙◌, arith, inl, inr}
-use Rattle.std.specs.Prelude.{IsTrue, ◌==◌, ◌&&◌, not, nat_lt, if◌then◌else◌}
+use Rattle.std.proofs.Common.{◌≡◌, ◌≢◌, ◌⊎◌, ℕ, zero, suc, ◌<◌, ◌≤◌, Bool, true, false, cond, List, [], ◌∷◌, ◌++◌, length, get_or, map, Contains, Option, Some, None, Result, Ok, Err, refl, sym, ap, subst, ◌∙◌, arith, inl, inr}
+use Rattle.std.specs.Prelude.{◌==◌, ◌&&◌, not, nat_lt}
 use Rattle.std.specs.List.{list_all, flat_map}
 use Rattle.std.specs.List.Sorted.{IsPermutation, IsNonDecreasingBy}
-use Rattle.std.proofs.lemmas.Bool.{and_parts, and_from, ltb-true, lt-ltb, eqb-true, eqb-false, eq-eqb, cases_Bool, false≢true, cond-true, cond-false}
+use Rattle.std.proofs.lemmas.Bool.{and_parts, and_from, ltb-true, lt-ltb, eqb-true, eqb-false, eq-eqb, false≢true}
 use Rattle.std.proofs.lemmas.List.Sorted.{Contains-permutation, IsPermutation-sym}
 use Rattle.std.specs.Cmp.Lexicographic.{bytes_decides}
 use Rattle.pm_wide.specs.Types.{unsigned_int_type}
@@ -18,7 +18,7 @@ use Rattle.first_gimple.specs.declared.draft.Taken.TheVariants.{Local, Initial, 
 use Rattle.std.proofs.lemmas.List.Concat.{flat_map-cons}
 use Rattle.first_gimple.specs.Meaning.{Has, AreNames, version_of, local_row, rows_of_taken, rows_of_line, named_rows}
 use Rattle.first_gimple.specs.Reading.{Gives}
-use Rattle.first_gimple.specs.Tests.{Finds, same_row, put_row, before_next, merged}
+use Rattle.first_gimple.specs.Tests.{Finds, same_row, put_row, merged}
 
 -- ---- membership
 

@@ -5,3 +5,4 @@ pub mod Rules
 pub mod Spelling
 pub mod Tests
 pub mod Tokens
+pub mod Uniform

@@ -1,5 +1,5 @@
 -- The function that a draft stands for.
-use Rattle.std.specs.Prelude.{◌≡◌, ◌⊎◌, ◌≤◌, ℕ, Bool, true, false, IsTrue, List, [], ◌∷◌, ◌++◌, map, length}
+use Rattle.std.specs.Prelude.{◌≡◌, ◌⊎◌, ◌≤◌, ℕ, true, false, IsTrue, List, [], ◌∷◌, ◌++◌, map, length}
 use Rattle.std.specs.List.{flat_map, list_any, list_all}
 use Rattle.pm_wide.specs.Types.{unsigned_int_type}
 use Rattle.pm_wide.specs.declared.operand.Operand.{Operand}

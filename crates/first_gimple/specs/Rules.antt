@@ -1,6 +1,6 @@
 -- The rules that a function of the first form keeps, in terms of its lines.
-use Rattle.std.specs.Prelude.{◌≡◌, ℕ, Bool, not, ◌&&◌, ◌==◌, IsTrue, List, [], ◌∷◌, ◌++◌, map}
-use Rattle.std.specs.List.{flat_map, list_any, list_all}
+use Rattle.std.specs.Prelude.{◌≡◌, ℕ, Bool, not, ◌&&◌, ◌==◌, IsTrue, List, ◌∷◌, ◌++◌, map}
+use Rattle.std.specs.List.{list_any, list_all}
 use Rattle.gim_ast.specs.Identifiers.{is_identifier, is_anonymous}
 use Rattle.gim_ast.specs.WellFormed.{same_text, all_distinct}
 use Rattle.first_gimple.specs.declared.draft.Draft.{Draft}

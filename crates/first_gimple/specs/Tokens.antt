@@ -1,6 +1,6 @@
 -- The tokens of a text of the first form. A token is its bytes: a run of letters, digits and underscores (an identifier, or
 -- a number with its suffix), or one other byte, a mark.
-use Rattle.std.specs.Prelude.{◌≡◌, ℕ, ◌==◌, nat_le, Bool, true, false, not, ◌&&◌, ◌||◌, IsTrue, List, [], ◌∷◌, ◌++◌}
+use Rattle.std.specs.Prelude.{◌≡◌, ℕ, ◌==◌, nat_le, Bool, false, not, ◌&&◌, ◌||◌, IsTrue, List, [], ◌∷◌, ◌++◌}
 use Rattle.std.specs.List.{list_all}
 use Rattle.gim_ast.specs.Identifiers.{is_word_byte}
 

@@ -7,6 +7,7 @@
 mod draft;
 mod fault;
 mod identifiers;
+pub mod laws;
 mod making;
 mod numbers;
 mod order;
@@ -21,6 +22,7 @@ ghost use Rattle.first_gimple.specs.declared.fault.FirstFault.TheVariants.{Memor
 ghost use Rattle.first_gimple.specs.Meaning.{IsFirstForm, StandsFor};
 ghost use Rattle.first_gimple.specs.Rules.{KeepsRules};
 ghost use Rattle.first_gimple.specs.Tests.{Finds};
+ghost use Rattle.first_gimple.specs.Uniform.{IsUniform};
 
 pub use draft::{Draft, Line, Taken};
 pub use fault::FirstFault;
@@ -57,9 +59,14 @@ fn judged(alloc: Global, draft: &Draft) -> Result<Function, FirstFault>
 pub fn read(alloc: Global, source: &[u8]) -> Result<Function, FirstFault>
     // What is read is what the text stands for.
     ensures found { IfOk result (IsFirstForm source.now) }
+    // It has one block that returns, and every type in it is `unsigned int`.
+    ensures uniform { IfOk result IsUniform }
     // What the text stands for is read, unless memory runs out.
     ensures only { (f : Function) → IsFirstForm source.now f → MatchResult result (λ g. g ≡ f) (λ fault. fault ≡ Memory) }
 {
     let draft = reading::draft(alloc, source)?;
     judged(alloc, &draft)
 }
+
+#[cfg(test)]
+mod tests;

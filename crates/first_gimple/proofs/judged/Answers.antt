@@ -1,4 +1,4 @@
-use Rattle.std.proofs.Common.{◌≡◌, ◌≤◌, ◌∙◌, [], length, true, sym, ap, subst, arith}
+use Rattle.std.proofs.Common.{◌∙◌, [], sym, ap, subst, arith}
 use Rattle.std.specs.Prelude.{◌==◌}
 use Rattle.gim_ast.specs.WellFormed.{same_text, all_distinct}
 use Rattle.first_gimple.specs.Meaning.{StandsFor}

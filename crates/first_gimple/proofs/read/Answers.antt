@@ -1,5 +1,6 @@
 use Rattle.std.proofs.lemmas.Result.{err_from_is_err_and}
 use Rattle.first_gimple.proofs.Judging.{form_found, form_only, unread}
+use Rattle.first_gimple.proofs.OneKind.{all_uniform}
 use Rattle.first_gimple.proofs.read.Goals as goal
 
 pub returns-in_err-draft-clause-only : goal.returns-in_err-draft-clause-only
@@ -12,3 +13,6 @@ returns-clause-found c = form_found c.args.source.now c.in_ok-draft.draft c.judg
 
 pub returns-clause-only : goal.returns-clause-only
 returns-clause-only c = form_only c.args.source.now c.in_ok-draft.draft c.judged.result c.in_ok-draft.ensures c.judged.ensures
+
+pub returns-clause-uniform : goal.returns-clause-uniform
+returns-clause-uniform c = all_uniform c.args.source.now c.judged.result (form_found c.args.source.now c.in_ok-draft.draft c.judged.result c.in_ok-draft.ensures c.judged.ensures)

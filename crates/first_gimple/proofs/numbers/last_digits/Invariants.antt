@@ -1,4 +1,4 @@
-use Rattle.std.proofs.Common.{◌≡◌, ◌≤◌, ◌-◌, true, length, drop}
+use Rattle.std.proofs.Common.{◌≡◌, ◌≤◌, true, length, drop}
 use Rattle.std.specs.List.{list_all}
 use Rattle.gim_ast.specs.Identifiers.{is_digit}
 use Rattle.first_gimple.proofs.numbers.last_digits.Given as goal

@@ -1,4 +1,4 @@
-use Rattle.std.proofs.Common.{◌≡◌, ◌-◌, ◌∙◌, sym, refl, nat_eq, slice_index, arith}
+use Rattle.std.proofs.Common.{◌-◌, ◌∙◌, sym, nat_eq, slice_index, arith}
 use Rattle.first_gimple.proofs.Distinct.{distinct_step, distinct_fails, has_step, nat_eq_symm, any_default}
 use Rattle.std.specs.HashSet.{contains}
 use Rattle.first_gimple.proofs.order.distinct_numbers.Goals as goal

@@ -1,4 +1,4 @@
-use Rattle.std.proofs.Common.{◌≡◌, ◌∙◌, sym, map, take, nat_eq}
+use Rattle.std.proofs.Common.{◌∙◌, sym, map, take, nat_eq}
 use Rattle.std.specs.HashSet.{contains}
 use Rattle.first_gimple.specs.Rules.{name_of_line}
 use Rattle.first_gimple.proofs.Sequence.{order_fails, order_goes_on, order_ends, known_step}

@@ -1,7 +1,7 @@
 use Rattle.std.proofs.Common.{sym, codes}
 use Rattle.std.proofs.lemmas.Result.{err_from_is_err_and}
 use Rattle.first_gimple.specs.Pieces.{tokens_of}
-use Rattle.first_gimple.specs.Reading.{items_at, local_at, params_behind}
+use Rattle.first_gimple.specs.Reading.{items_at, local_at}
 use Rattle.first_gimple.proofs.Loops.{begins, goes_on, fails, ends, runs_out}
 use Rattle.first_gimple.proofs.reading.take_locals.Goals as goal
 

@@ -1,6 +1,6 @@
 use Rattle.std.proofs.Common.{◌≡◌, ◌-◌, codes}
 use Rattle.first_gimple.specs.Pieces.{tokens_of}
-use Rattle.first_gimple.specs.Reading.{items_at, local_at, params_behind}
+use Rattle.first_gimple.specs.Reading.{items_at, local_at}
 use Rattle.first_gimple.proofs.Loops.{with_front}
 use Rattle.first_gimple.proofs.reading.take_locals.Given as goal
 

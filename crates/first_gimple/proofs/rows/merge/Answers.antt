@@ -1,4 +1,4 @@
-use Rattle.std.proofs.Common.{◌≡◌, ◌∙◌, ◌+◌, ◌∷◌, ap, sym, subst, arith}
+use Rattle.std.proofs.Common.{◌∙◌, ◌+◌, sym}
 use Rattle.first_gimple.proofs.Merging.{merge_ends, merge_last, merge_put, merge_skip, merge_refuses, one_version, other_version}
 use Rattle.first_gimple.proofs.rows.merge.Goals as goal
 use Rattle.first_gimple.proofs.rows.merge.Goals.{then-at-rows+then-rows-at+else-not-is_same, else-at-rows+in_ok-copy+in_ok-push, else-at-rows-via-then-at-rows+else-rows-at, else-at-rows-via-else-at-rows}

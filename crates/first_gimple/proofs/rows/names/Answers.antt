@@ -1,4 +1,4 @@
-use Rattle.std.proofs.Common.{◌∙◌, ap, sym, subst}
+use Rattle.std.proofs.Common.{subst}
 use Rattle.std.specs.List.Sorted.{IsPermutation}
 use Rattle.first_gimple.specs.Meaning.{named_rows}
 use Rattle.first_gimple.specs.Reading.{Gives}

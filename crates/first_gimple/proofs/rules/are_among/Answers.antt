@@ -1,4 +1,4 @@
-use Rattle.std.proofs.Common.{◌≡◌, ◌∙◌, ap, sym, refl}
+use Rattle.std.proofs.Common.{◌∙◌, sym}
 use Rattle.first_gimple.proofs.Texts.{all_known_step, all_known_fails}
 use Rattle.first_gimple.proofs.rules.are_among.Goals as goal
 

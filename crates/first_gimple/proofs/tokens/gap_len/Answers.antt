@@ -1,4 +1,4 @@
-use Rattle.std.proofs.Common.{◌∙◌, sym, arith}
+use Rattle.std.proofs.Common.{◌∙◌, sym}
 use Rattle.first_gimple.proofs.Cutting.{cut_space_at}
 use Rattle.first_gimple.proofs.tokens.gap_len.Goals as goal
 

@@ -1,5 +1,4 @@
-use Rattle.std.proofs.Common.{◌≡◌, ℕ, ◌<◌, ◌∷◌, length, take, drop, false, sym, ap, ◌∙◌, arith}
-use Rattle.first_gimple.specs.Pieces.{tokens_of}
+use Rattle.std.proofs.Common.{◌<◌, length, sym, ◌∙◌}
 use Rattle.first_gimple.proofs.Cutting.{cut_first, cut_nothing, is_long}
 use Rattle.first_gimple.proofs.tokens.next_token.Goals as goal
 
