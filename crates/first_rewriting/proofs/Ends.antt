@@ -1,13 +1,12 @@
 -- Where the rewriting ends, and by which steps it gets there.
-use Rattle.std.proofs.Common.{◌≡◌, ℕ, zero, suc, ◌+◌, ◌<◌, ◌≤◌, Bool, true, false, List, [], ◌∷◌, length, Option, Some, None, refl, ap, sym, ◌∙◌, subst, arith, slice_get, slice_index_or}
+use Rattle.std.proofs.Common.{◌≡◌, ℕ, zero, suc, ◌+◌, ◌<◌, ◌≤◌, Bool, true, false, List, [], ◌∷◌, length, Option, Some, None, refl, ap, sym, ◌∙◌, arith, slice_get, slice_index_or}
 use Rattle.std.specs.Prelude.{IsSome, is_some, Contains}
-use Rattle.std.specs.Option.{option_map, option_map_or}
+use Rattle.std.specs.Option.{option_map}
 use Rattle.pm_wide.specs.declared.operand.Operand.{Operand}
 use Rattle.gim_ast.specs.declared.function.Function.{Function}
 use Rattle.gim_ast.specs.declared.function.Rhs.{Rhs}
-use Rattle.gim_ast.specs.Removal.{tidied}
 use Rattle.gim_ast.specs.Subjects.{Subject, View, subjects, view_of}
-use Rattle.gim_ast.specs.Rewriting.{Choice, Firing, Rewritten, or_else, first_some, choice_at, first_choice, stepped, firing_of, with_firing, rewritten_by, rewriting_of}
+use Rattle.gim_ast.specs.Rewriting.{Choice, Firing, or_else, first_some, choice_at, first_choice, stepped, firing_of, with_firing, rewritten_by}
 use Rattle.first_patterns.specs.declared.row.Row.{Row}
 use Rattle.first_patterns.specs.Matching.{result_of, found_from}
 use Rattle.first_rewriting.specs.Reaches.{Reaches, Done, Spent, Step}

@@ -1,5 +1,5 @@
 -- The value of an operation, by the number of its operands.
-use Rattle.std.proofs.Common.{◌≡◌, ◌≤◌, arith, Option, Some, None, List, [], ◌∷◌, length, refl}
+use Rattle.std.proofs.Common.{◌≡◌, ◌≤◌, arith, Some, None, List, [], ◌∷◌, length, refl}
 use Rattle.std.specs.Option.{option_and_then, option_map}
 use Rattle.pm_ops.specs.declared.code.Code.{Code}
 use Rattle.pm_wide.specs.Types.{Ty}

@@ -1,8 +1,8 @@
 -- A step keeps a function well typed: what a choice gives has the type of its subject.
-use Rattle.std.proofs.Common.{◌≡◌, ◌==◌, ℕ, suc, Bool, true, false, cond, List, [], ◌∷◌, ◌++◌, map, Option, Some, None, inl, inr, refl, ap, sym, ◌∙◌, subst, eqb-true}
+use Rattle.std.proofs.Common.{◌≡◌, ◌==◌, ℕ, suc, Bool, true, false, List, [], ◌∷◌, ◌++◌, map, Option, Some, None, inl, inr, refl, ap, sym, ◌∙◌, subst, eqb-true}
 use Rattle.std.specs.Prelude.{◌&&◌, ◌||◌, ◌⊎◌, not, if◌then◌else◌}
 use Rattle.std.specs.List.{flat_map, list_all}
-use Rattle.std.specs.Option.{option_map, option_and_then, ForSome}
+use Rattle.std.specs.Option.{option_map, option_and_then}
 use Rattle.pm_ops.specs.Codes.{is_commutative_code, is_comparison_code, swapped_code, same_code}
 use Rattle.pm_ops.specs.declared.code.Code.{Code}
 use Rattle.pm_ops.specs.declared.code.Code.TheVariants.{Ne}
@@ -20,10 +20,10 @@ use Rattle.gim_ast.specs.declared.function.Rhs.TheVariants.{Copy, Op}
 use Rattle.gim_ast.specs.declared.function.End.{End}
 use Rattle.gim_ast.specs.declared.function.End.TheVariants.{Goto, If, Return}
 use Rattle.gim_ast.specs.Functions.{row_of, first_where, same_operand}
-use Rattle.gim_ast.specs.Subjects.{Site, AtStmt, AtCond, Subject, View, view_of, type_at, subject_of_stmt, subjects_of_end, subjects_of_block, subjects}
-use Rattle.gim_ast.specs.Rewriting.{Result, AsOperand, AsExchanged, Choice, IsCopy, IsSwap, IsFold, IsRow, or_else, first_some, copy_at, swap_at, swap_operands, fold_at, words_of, first_kind, choice_at, is_condition, gives_same_condition, bool_zero, changed, first_choice, stepped}
+use Rattle.gim_ast.specs.Subjects.{Site, AtStmt, AtCond, Subject, view_of, type_at, subject_of_stmt, subjects_of_end, subjects_of_block, subjects}
+use Rattle.gim_ast.specs.Rewriting.{Result, AsOperand, AsExchanged, Choice, IsCopy, IsSwap, IsFold, IsRow, or_else, first_some, swap_operands, fold_at, words_of, first_kind, choice_at, is_condition, gives_same_condition, bool_zero, changed, first_choice}
 use Rattle.gim_ast.specs.Removal.{tidied}
-use Rattle.gim_ast.specs.WellFormed.{type_of, rhs_fits}
+use Rattle.gim_ast.specs.WellFormed.{type_of}
 use Rattle.first_patterns.specs.declared.row.Row.{Row}
 use Rattle.first_patterns.specs.declared.row.Side.{Side}
 use Rattle.first_patterns.specs.declared.row.Side.TheVariants.{Left, Right}

@@ -8,3 +8,4 @@ pub mod ValueTypes
 pub mod Choosing
 pub mod Ends
 pub mod Folding
+pub mod WellTyped

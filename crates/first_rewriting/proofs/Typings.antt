@@ -1,13 +1,11 @@
 -- What is typed stays typed: by each kind of step, and by removal.
-use Rattle.std.proofs.Common.{◌≡◌, ◌==◌, ℕ, zero, suc, Bool, true, false, cond, List, [], ◌∷◌, ◌++◌, map, Option, Some, None, refl, ap, sym, ◌∙◌, subst, length, eq-eqb, eqb-true}
+use Rattle.std.proofs.Common.{◌≡◌, ◌==◌, ℕ, zero, suc, Bool, true, false, cond, List, [], ◌∷◌, map, Some, None, refl, ap, sym, ◌∙◌, subst, length, eq-eqb, eqb-true}
 use Rattle.std.specs.Prelude.{◌&&◌, ◌||◌, not, filter, if◌then◌else◌}
 use Rattle.std.specs.List.{list_all}
 use Rattle.std.specs.Option.{option_map_or}
-use Rattle.pm_ops.specs.Codes.{is_commutative_code, is_comparison_code, swapped_code, same_code}
 use Rattle.pm_ops.specs.declared.code.Code.{Code}
-use Rattle.pm_ops.specs.declared.code.Code.TheVariants.{Convert, Plus, Minus, Mult, TruncDiv, TruncMod, Negate, Abs, Absu, BitAnd, BitIor, BitXor, BitNot, Lshift, Rshift, Min, Max, Eq, Ne, Lt, Le, Gt, Ge, Cond}
-use Rattle.pm_wide.specs.Types.{Ty, Word, same_type, bool_type}
-use Rattle.pm_wide.specs.Typing.{well_typed_operation, well_typed_binary}
+use Rattle.pm_wide.specs.Types.{Ty, same_type, bool_type}
+use Rattle.pm_wide.specs.Typing.{well_typed_operation}
 use Rattle.pm_wide.specs.declared.operand.Operand.{Operand}
 use Rattle.pm_wide.specs.declared.operand.Operand.TheVariants.{Name, Const}
 use Rattle.gim_ast.specs.declared.function.Function.{Function}
@@ -19,12 +17,12 @@ use Rattle.gim_ast.specs.declared.function.Rhs.{Rhs}
 use Rattle.gim_ast.specs.declared.function.Rhs.TheVariants.{Copy, Op}
 use Rattle.gim_ast.specs.declared.function.End.{End}
 use Rattle.gim_ast.specs.declared.function.End.TheVariants.{Goto, If, Return}
-use Rattle.gim_ast.specs.Functions.{is_name, operands_of_rhs, operands_of_end, assigned}
+use Rattle.gim_ast.specs.Functions.{is_name, operands_of_rhs, assigned}
 use Rattle.gim_ast.specs.Substitution.{put, put_in_rhs, put_in_end, put_in_phi, put_in_stmt, put_in_block, put_in_all, with_rhs_in_stmt, with_rhs, with_condition_in_end, with_condition}
 use Rattle.gim_ast.specs.Removal.{without_in_block, without, last_unused, pruned_by, pruned, trimmed, tidied, stands_in, is_empty_text}
 use Rattle.gim_ast.specs.WellFormed.{type_of, rhs_fits}
 use Rattle.first_rewriting.specs.Blocks.{with_rhs_in_block, with_condition_in_block}
-use Rattle.first_rewriting.specs.Typed.{operand_agrees, phi_agrees, stmt_agrees, condition_fits, end_agrees, block_agrees, row_agrees, IsTyped}
+use Rattle.first_rewriting.specs.Typed.{operand_agrees, phi_agrees, stmt_agrees, end_agrees, block_agrees, row_agrees}
 
 -- ---- tests
 

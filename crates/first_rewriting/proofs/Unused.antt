@@ -1,5 +1,5 @@
 -- Removal: the last unused name in parts of a function, what removal takes away, and that it comes to an end.
-use Rattle.std.proofs.Common.{inl, inr, cond, eq-eqb, ◌≡◌, ◌≢◌, ◌==◌, ℕ, zero, suc, ◌+◌, ◌<◌, ◌≤◌, Bool, true, false, List, [], ◌∷◌, ◌++◌, length, map, Option, Some, None, refl, ap, sym, ◌∙◌, arith, get_or, drop}
+use Rattle.std.proofs.Common.{inl, inr, cond, eq-eqb, ◌≡◌, ◌==◌, ℕ, zero, suc, ◌+◌, ◌<◌, ◌≤◌, Bool, true, false, List, [], ◌∷◌, ◌++◌, length, map, Option, Some, None, refl, ap, sym, ◌∙◌, arith, get_or, drop}
 use Rattle.std.specs.Prelude.{not, filter, ◌||◌, ◌⊎◌}
 use Rattle.std.specs.Option.{option_map_or}
 use Rattle.std.specs.List.{flat_map, list_any}

@@ -1,12 +1,12 @@
 -- The types of values: what an operation gives, what a row gives, and what exchanged operands may be.
-use Rattle.std.proofs.Common.{◌≡◌, ◌==◌, ℕ, Bool, true, false, cond, List, [], ◌∷◌, map, Option, Some, None, get_or, refl, ap, sym, ◌∙◌, subst, eqb-true}
-use Rattle.std.specs.Prelude.{◌&&◌, ◌||◌, not, ℤ, if◌then◌else◌}
+use Rattle.std.proofs.Common.{◌≡◌, ◌==◌, Bool, true, false, List, [], ◌∷◌, map, Some, None, get_or, refl, ap, sym, ◌∙◌, subst, eqb-true}
+use Rattle.std.specs.Prelude.{◌&&◌, ◌||◌, not, if◌then◌else◌}
 use Rattle.pm_ops.specs.Codes.{is_commutative_code, is_comparison_code, swapped_code, same_code, code_number}
 use Rattle.pm_ops.specs.declared.code.Code.{Code}
 use Rattle.pm_ops.specs.declared.code.Code.TheVariants.{Convert, Plus, Minus, Mult, TruncDiv, TruncMod, Negate, Abs, Absu, BitAnd, BitIor, BitXor, BitNot, Lshift, Rshift, Min, Max, Eq, Ne, Lt, Le, Gt, Ge, Cond}
-use Rattle.pm_wide.specs.Types.{Ty, Word, same_type, bool_type, word, in_range, value}
+use Rattle.pm_wide.specs.Types.{Ty, Word, same_type, bool_type}
 use Rattle.pm_wide.specs.Typing.{well_typed_operation, well_typed_unary, well_typed_binary, well_typed_ternary}
-use Rattle.pm_wide.specs.Operations.{operation_value, unary_value, binary_value, ternary_value, exact, divides, shifts}
+use Rattle.pm_wide.specs.Operations.{operation_value, unary_value, binary_value, ternary_value}
 use Rattle.first_patterns.specs.declared.row.Side.{Side}
 use Rattle.first_patterns.specs.declared.row.Side.TheVariants.{Left, Right}
 use Rattle.first_rewriting.specs.Typed.{is_left, is_shift_code}

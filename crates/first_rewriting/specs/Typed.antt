@@ -1,6 +1,6 @@
 -- Functions whose operations are well typed, and rows that keep the type: then each operation on constants is one that the
 -- operation table speaks of, before every step.
-use Rattle.std.specs.Prelude.{ℕ, ◌||◌, ◌&&◌, not, Bool, true, false, IsTrue, List, [], ◌∷◌, map}
+use Rattle.std.specs.Prelude.{ℕ, ◌||◌, ◌&&◌, not, Bool, true, false, IsTrue, List, [], ◌∷◌}
 use Rattle.std.specs.List.{list_all}
 use Rattle.pm_ops.specs.Codes.{is_comparison_code}
 use Rattle.pm_ops.specs.declared.code.Code.{Code}
@@ -15,7 +15,7 @@ use Rattle.gim_ast.specs.declared.function.Phi.{Phi}
 use Rattle.gim_ast.specs.declared.function.Stmt.{Stmt}
 use Rattle.gim_ast.specs.declared.function.NameRow.{NameRow}
 use Rattle.gim_ast.specs.declared.function.End.{End}
-use Rattle.gim_ast.specs.declared.function.End.TheVariants.{Goto, If, Return}
+use Rattle.gim_ast.specs.declared.function.End.TheVariants.{If}
 use Rattle.gim_ast.specs.Functions.{operands_of_rhs, operands_of_end}
 use Rattle.gim_ast.specs.WellFormed.{type_of, rhs_fits}
 use Rattle.first_patterns.specs.declared.row.Row.{Row}

@@ -6,6 +6,7 @@ ghost use Rattle.gim_ast.specs.declared.function.Rhs.{Rhs};
 ghost use Rattle.gim_ast.specs.Removal.{last_unused, pruned, tidied};
 ghost use Rattle.gim_ast.specs.Subjects.{Subject, View, subjects, view_of};
 ghost use Rattle.gim_ast.specs.Rewriting.{Choice, Firing, choice_at, first_choice, rewriting_of, stepped};
+ghost use Rattle.gim_ast.specs.WellFormed.{IsWellFormed};
 ghost use Rattle.first_patterns.specs.declared.row.Row.{Row};
 ghost use Rattle.first_patterns.specs.Matching.{result_of, row_at};
 ghost use Rattle.first_rewriting.specs.Reaches.{Reaches};
@@ -40,6 +41,11 @@ pub fn firings_keep_the_budget()
 pub fn rewriting_is_by_steps()
     ensures reaches { (rows : List Row) (budget : ℕ) (f : Function) → Reaches (row_at rows) budget (tidied f) (rewriting_of (row_at rows) budget f).function (rewriting_of (row_at rows) budget f).firings (rewriting_of (row_at rows) budget f).exhausted }
     ensures only { (rows : List Row) (budget : ℕ) (f end : Function) (firings : List Firing) (exhausted : Bool) → Reaches (row_at rows) budget (tidied f) end firings exhausted → record { function = end; firings = firings; exhausted = exhausted } ≡ rewriting_of (row_at rows) budget f }
+{}
+
+/// A well-formed function may be rewritten: it is typed.
+pub fn well_formed_is_typed()
+    ensures { (f : Function) → IsWellFormed f → IsTyped f }
 {}
 
 /// Removal keeps a function well typed.

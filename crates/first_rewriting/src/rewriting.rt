@@ -25,7 +25,11 @@ pub struct Simplified {
     pub exhausted: bool,
 }
 
-/// Rewrites a function by the rows, by at most `budget` steps.
+/// Rewrites a function by the rows, by at most `budget` steps. First what is unused goes.
+///
+/// Each step is the first choice at the first subject in program order that has one: a copy, a swap, a fold or the first row that
+/// applies. The function is typed, as each well-formed one is, and the rows keep types. The one error is want of memory, after
+/// which the function is gone.
 pub fn simplify(
     alloc: Global,
     rows: &[Row],

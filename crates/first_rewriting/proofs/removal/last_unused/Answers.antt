@@ -1,4 +1,4 @@
-use Rattle.std.proofs.Common.{◌≡◌, get_or, ap, ◌∙◌}
+use Rattle.std.proofs.Common.{get_or, ap, ◌∙◌}
 use Rattle.first_rewriting.proofs.Unused.{block_turn}
 use Rattle.first_rewriting.proofs.removal.last_unused.Goals as goal
 

@@ -1,6 +1,5 @@
-use Rattle.std.proofs.Common.{◌≡◌, sym, ◌∙◌, arith, subst, Option, ℕ, map, drop}
+use Rattle.std.proofs.Common.{◌≡◌, sym, ◌∙◌, arith}
 use Rattle.gim_ast.specs.Functions.{stmt_name}
-use Rattle.first_rewriting.specs.Blocks.{last_unused_of}
 use Rattle.first_rewriting.proofs.Unused.{used_turn, unused_turn}
 use Rattle.first_rewriting.proofs.removal.last_unused_stmt.Goals as goal
 use Rattle.first_rewriting.proofs.removal.last_unused_stmt.Goals.{then-not-is_used, else-not-is_used}

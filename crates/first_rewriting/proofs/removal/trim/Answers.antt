@@ -1,4 +1,4 @@
-use Rattle.std.proofs.Common.{◌≡◌, true, false, arith, refl, sym, ap, ◌∙◌}
+use Rattle.std.proofs.Common.{arith, refl, sym, ap, ◌∙◌}
 use Rattle.gim_ast.specs.declared.function.Function.{Function}
 use Rattle.first_rewriting.proofs.Lists.{filtered_start, filtered_fails, filtered_passes}
 use Rattle.first_rewriting.proofs.Unused.{rows_stay}

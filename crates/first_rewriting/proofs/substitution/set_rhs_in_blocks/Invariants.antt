@@ -1,4 +1,4 @@
-use Rattle.std.proofs.Common.{ℕ, ◌∷◌, []}
+use Rattle.std.proofs.Common.{◌∷◌, []}
 use Rattle.gim_ast.specs.declared.function.Rhs.TheVariants.{Op}
 use Rattle.first_rewriting.specs.Blocks.{with_rhs_in_block}
 use Rattle.first_rewriting.proofs.Lists.{IsMapped}

@@ -1,4 +1,4 @@
-use Rattle.std.proofs.Common.{ℕ, ◌∷◌, []}
+use Rattle.std.proofs.Common.{◌∷◌, []}
 use Rattle.gim_ast.specs.declared.function.Rhs.TheVariants.{Op}
 use Rattle.gim_ast.specs.Substitution.{with_rhs_in_stmt}
 use Rattle.first_rewriting.proofs.Lists.{IsMapped}
