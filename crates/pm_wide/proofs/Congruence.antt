@@ -1,10 +1,10 @@
 -- Congruence modulo a power of two goes through every operation of the ring.
-use Rattle.std.proofs.Common.{◌≡◌, ℕ, ◌+◌, ◌*◌, ◌^◌, refl, sym, ap, ◌∙◌, arith}
+use Rattle.std.proofs.Common.{◌≡◌, ℕ, ◌+◌, ◌-◌, ◌*◌, ◌^◌, ◌≤◌, refl, sym, ap, subst, ◌∙◌, arith}
 use Rattle.std.specs.Prelude.{ℤ, pos, neg_ℤ, ◌+ℤ◌, ◌-ℤ◌, ◌*ℤ◌}
 use Rattle.std.proofs.lemmas.Int.{ints}
 use Rattle.std.proofs.lemmas.Nat.{pow-add}
 use Rattle.pm_wide.specs.Congruence.{Congruent}
-use Rattle.pm_wide.proofs.Whole.{add-mul, mul-add, mul_assoc, mul_comm, neg-mul}
+use Rattle.pm_wide.proofs.Whole.{add-mul, mul_assoc, mul_comm, neg-mul}
 
 pub same : (m : ℕ) (a : ℤ) → Congruent m a a
 same m a = record { multiple = pos 0; differ = omega (arith, ints) }
@@ -58,3 +58,6 @@ fewer m n a b h = record {
   where
     moved : (k : ℤ) (x y : ℕ) → k *ℤ pos (x * y) ≡ k *ℤ pos y *ℤ pos x
     moved k x y = ap (λ z. k *ℤ z) (mul_comm (pos x) (pos y)) ∙ sym (mul_assoc k (pos y) (pos x))
+
+pub fewer_places : (m n : ℕ) (a b : ℤ) → m ≤ n → Congruent n a b → Congruent m a b
+fewer_places m n a b h k = let total : m + (n - m) ≡ n = omega arith in fewer m (n - m) a b (subst (λ x. Congruent x a b) (sym total) k)

@@ -1,14 +1,16 @@
 -- The value of a well-typed operation on words is a word of the operation's type.
-use Rattle.std.proofs.Common.{◌≡◌, ℕ, ◌+◌, ◌-◌, ◌^◌, ◌<◌, ◌==◌, Bool, true, false, not, cond, ◌&&◌, List, [], ◌∷◌, Option, Some, None, refl, sym, ap, subst, ◌∙◌, arith, lit<}
-use Rattle.std.specs.Prelude.{ℤ, pos, unsigned_abs, IsTrue, map, bit_and, bit_or, bit_xor}
+use Rattle.std.proofs.Common.{◌≡◌, ℕ, ◌^◌, ◌<◌, ◌==◌, Bool, true, false, not, cond, ◌&&◌, List, [], ◌∷◌, Option, Some, None, refl, sym, subst, arith, lit<}
+use Rattle.std.specs.Prelude.{ℤ, pos, unsigned_abs, Result, IfOk, IsTrue, map}
 use Rattle.std.specs.List.{All}
+use Rattle.std.specs.Option.{ok_or}
+use Rattle.pm_wide.specs.declared.undefined.Undefined.{Undefined}
 use Rattle.std.proofs.lemmas.Bool.{and_parts}
 use Rattle.std.proofs.lemmas.Nat.{pow_pos, and_le_l, or_lt, xor_lt}
 use borrow.Author.Tests.{eqb-true}
 use Rattle.pm_ops.specs.declared.code.Code.{Code}
 use Rattle.pm_ops.specs.declared.code.Code.TheVariants.{Convert, Plus, Minus, Mult, TruncDiv, TruncMod, Negate, Abs, Absu, BitAnd, BitIor, BitXor, BitNot, Lshift, Rshift, Min, Max, Eq, Ne, Lt, Le, Gt, Ge, Cond}
-use Rattle.pm_wide.specs.Types.{Ty, Word, IsType, IsWord, same_type, bool_type, word_of, word, value}
-use Rattle.pm_wide.specs.Operations.{exact, reduced, as_word, truth, divides, shifts, int_same, unary_value, binary_value, ternary_value, operation_value}
+use Rattle.pm_wide.specs.Types.{Ty, Word, IsType, IsWord, same_type, bool_type, word, value}
+use Rattle.pm_wide.specs.Operations.{exact, reduced, as_word, truth, unary_value, binary_value, ternary_value, operation_value}
 use Rattle.pm_wide.specs.Typing.{well_typed_unary, well_typed_binary, well_typed_ternary, well_typed_operation}
 use Rattle.pm_wide.proofs.Words.{word-below}
 use Rattle.pm_wide.proofs.Values.{exact_cases}
@@ -108,6 +110,11 @@ operation_word code t (a ∷ b ∷ []) r h e = binary_word code t a b r (λ w. w
 operation_word code t (a ∷ b ∷ c ∷ []) r h e = ternary_word code t a b c r (λ w. w.1 1 b (lit< tt)) (λ w. w.1 2 c (lit< tt)) h e
 operation_word code t _ r h e = cc
 
--- the type alone
-pub operation_type : (code : Code) (t : Ty) (args : List Word) (r : Word) → IsTrue (well_typed_operation code t (map (λ w. w.ty) args)) → operation_value code t args ≡ Some r → r.ty ≡ t
-operation_type code t args r h e = (operation_word code t args r h e).0
+-- ---- the type of what the code answers
+
+typed : (t : Ty) (o : Option Word) (r : Result Word Undefined) → ((w : Word) → o ≡ Some w → w.ty ≡ t) → r ≡ ok_or o (record {}) → IfOk r (λ w. w.ty ≡ t)
+typed t (Some w) r f e = subst (λ (x : Result Word Undefined). IfOk x (λ w. w.ty ≡ t)) (sym e) (f w refl)
+typed t None r f e = subst (λ (x : Result Word Undefined). IfOk x (λ w. w.ty ≡ t)) (sym e) tt
+
+pub operation_typed : (code : Code) (t : Ty) (args : List Word) (r : Result Word Undefined) → IsTrue (well_typed_operation code t (map (λ w. w.ty) args)) → r ≡ ok_or (operation_value code t args) (record {}) → IfOk r (λ w. w.ty ≡ t)
+operation_typed code t args r h = typed t (operation_value code t args) r (λ w e. (operation_word code t args w h e).0)

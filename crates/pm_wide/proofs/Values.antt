@@ -1,18 +1,20 @@
 -- What the value of an operation is as a whole number.
-use Rattle.std.proofs.Common.{◌≡◌, ℕ, zero, suc, ◌+◌, ◌-◌, ◌*◌, ◌/◌, ◌%◌, ◌^◌, ◌≤◌, ◌<◌, Bool, true, false, not, cond, ◌&&◌, ◌||◌, List, [], ◌∷◌, Option, Some, None, refl, sym, ap, subst, ◌∙◌, ◌⊎◌, inl, inr, arith}
-use Rattle.std.specs.Prelude.{ℤ, pos, negsuc, neg_ℤ, ◌+ℤ◌, ◌-ℤ◌, ◌*ℤ◌, ◌≤ℤ◌, IsTrue, map, nat_lt}
+use Rattle.std.proofs.Common.{◌≡◌, ℕ, suc, ◌-◌, ◌^◌, ◌≤◌, ◌<◌, ◌==◌, Bool, true, false, not, cond, ◌&&◌, ◌||◌, [], ◌∷◌, Some, None, refl, sym, ap, subst, ◌∙◌, ◌⊎◌, inl, inr, arith}
+use Rattle.std.specs.Prelude.{ℤ, pos, negsuc, neg_ℤ, ◌-ℤ◌, ◌*ℤ◌, ◌≤ℤ◌, IsTrue}
 use Rattle.std.specs.Int.{int_div_euclid, int_min, int_max}
-use Rattle.std.specs.Int.RustNames.{int_lt, int_le, int_div, int_rem, unsigned_abs}
+use Rattle.std.specs.Int.RustNames.{int_lt, int_div, int_rem, unsigned_abs}
 use Rattle.std.proofs.lemmas.Bool.{and_parts}
 use Rattle.std.proofs.lemmas.Bool.Decides.{nat_tests}
 use Rattle.std.proofs.Math.Nat.{mod-le, div-le_self}
 use borrow.Author.Differences.{up, down}
-use Rattle.std.proofs.lemmas.Int.{ints, clamps}
-use Rattle.std.proofs.lemmas.Nat.{pow_pos, pow_below}
-use Rattle.pm_ops.specs.declared.code.Code.TheVariants.{Convert, Plus, Minus, Mult, TruncDiv, TruncMod, Negate, Abs, Absu, BitAnd, BitIor, BitXor, BitNot, Lshift, Rshift, Min, Max}
+use borrow.Author.Tests.{eqb-true}
+use Rattle.std.proofs.lemmas.Int.{ints}
+use Rattle.std.proofs.lemmas.Nat.{pow_below}
+use Rattle.pm_ops.specs.declared.code.Code.TheVariants.{Convert, TruncDiv, TruncMod, Absu, BitNot, Lshift, Rshift, Min, Max}
 use Rattle.pm_wide.specs.Congruence.{Congruent}
-use Rattle.pm_wide.specs.Types.{Ty, Word, IsType, IsWord, is_type, value_of, word_of, value, word, in_range, least, greatest}
+use Rattle.pm_wide.specs.Types.{Ty, Word, IsType, IsWord, value, word, in_range}
 use Rattle.pm_wide.specs.Operations.{exact, reduced, divides, shifts, operation_value}
+use Rattle.pm_wide.specs.Typing.{well_typed_operation}
 use Rattle.pm_wide.proofs.Congruence.{same, turned, joined, differences}
 use Rattle.pm_wide.proofs.Words.{value_congruent, value-word, value-word_congruent, value_in_range, bounds, within}
 
@@ -72,7 +74,7 @@ pub between_in_range : (t : Ty) (z y : ℤ) → IsTrue (in_range t z) → up y �
 between_in_range t z y h p q = let b = bounds t z h in by t.unsigned b.0 b.1 (λ i j. within t y i j)
   where
     by : (u : Bool) → cond u (pos 0) (neg_ℤ (pos (2 ^ (t.width - 1)))) ≤ℤ z → z ≤ℤ cond u (pos (2 ^ t.width - 1)) (pos (2 ^ (t.width - 1) - 1))
-      → (cond u (pos 0) (neg_ℤ (pos (2 ^ (t.width - 1)))) ≤ℤ y → y ≤ℤ cond u (pos (2 ^ t.width - 1)) (pos (2 ^ (t.width - 1) - 1)) → IsTrue (in_range t y)) → IsTrue (in_range t y)
+        → (cond u (pos 0) (neg_ℤ (pos (2 ^ (t.width - 1)))) ≤ℤ y → y ≤ℤ cond u (pos (2 ^ t.width - 1)) (pos (2 ^ (t.width - 1) - 1)) → IsTrue (in_range t y)) → IsTrue (in_range t y)
     by true i j f = f (omega (arith, ints, parts z, parts y)) (omega (arith, ints, parts z, parts y))
     by false i j f = f (omega (arith, ints, parts z, parts y)) (omega (arith, ints, parts z, parts y))
 
@@ -106,6 +108,7 @@ remainder_is t a b r k s e = by (divides t (value a) (value b)) e
   where
     near : (up (int_rem (value a) (value b)) ≤ up (value a)) × (down (int_rem (value a) (value b)) ≤ down (value a))
     near = remainder_between (value a) (value b)
+
     by : (d : Bool) → cond d (reduced t (int_rem (value a) (value b))) None ≡ Some r → value r ≡ int_rem (value a) (value b)
     by true f = reduced_within t _ r (of_type t a k s) (between_in_range t (value a) _ (word_in_range t a k s) near.0 near.1) f
     by false f = cc
@@ -116,6 +119,7 @@ floor_is t a b r k s e = by (shifts t (value b)) e
   where
     near : (up (int_div_euclid (value a) (pos (2 ^ unsigned_abs (value b)))) ≤ up (value a)) × (down (int_div_euclid (value a) (pos (2 ^ unsigned_abs (value b)))) ≤ down (value a))
     near = floor_between (value a) (2 ^ unsigned_abs (value b))
+
     by : (d : Bool) → cond d (reduced t (int_div_euclid (value a) (pos (2 ^ unsigned_abs (value b))))) None ≡ Some r → value r ≡ int_div_euclid (value a) (pos (2 ^ unsigned_abs (value b)))
     by true f = reduced_within t _ r (of_type t a k s) (between_in_range t (value a) _ (word_in_range t a k s) near.0 near.1) f
     by false f = cc
@@ -158,8 +162,9 @@ size_in_range t s z u v w p h = let b = bounds s z h in by t.unsigned s.unsigned
   where
     less : 2 ^ (s.width - 1) < 2 ^ t.width
     less = pow_below (s.width - 1) t.width (omega arith)
+
     by : (x y : Bool) → x ≡ true → y ≡ false → cond y (pos 0) (neg_ℤ (pos (2 ^ (s.width - 1)))) ≤ℤ z → z ≤ℤ cond y (pos (2 ^ s.width - 1)) (pos (2 ^ (s.width - 1) - 1))
-      → (cond x (pos 0) (neg_ℤ (pos (2 ^ (t.width - 1)))) ≤ℤ pos (unsigned_abs z) → pos (unsigned_abs z) ≤ℤ cond x (pos (2 ^ t.width - 1)) (pos (2 ^ (t.width - 1) - 1)) → IsTrue (in_range t (pos (unsigned_abs z)))) → IsTrue (in_range t (pos (unsigned_abs z)))
+        → (cond x (pos 0) (neg_ℤ (pos (2 ^ (t.width - 1)))) ≤ℤ pos (unsigned_abs z) → pos (unsigned_abs z) ≤ℤ cond x (pos (2 ^ t.width - 1)) (pos (2 ^ (t.width - 1) - 1)) → IsTrue (in_range t (pos (unsigned_abs z)))) → IsTrue (in_range t (pos (unsigned_abs z)))
     by true false e g i j f = f (omega (arith, ints)) (omega (arith, ints, less))
     by false y e g i j f = cc
     by true true e g i j f = cc
@@ -179,3 +184,14 @@ complement_congruent t a r k s e =
     let of_value : Congruent t.width (pos a.bits) (value a) = subst (λ x. Congruent x.width (pos a.bits) (value a)) s (turned a.ty.width _ _ (value_congruent a.ty a.bits)) in
     subst (λ x. Congruent t.width (value x) (negsuc 0 -ℤ value a)) is
     (joined t.width _ (pos n) _ (value_congruent t n) (joined t.width _ (negsuc 0 -ℤ pos a.bits) _ of_word (differences t.width _ _ _ _ (same t.width (negsuc 0)) of_value)))
+
+pub size_well_typed : (t : Ty) (a r : Word) → IsType t → IsWord a → IsTrue (well_typed_operation Absu t (a.ty ∷ [])) → operation_value Absu t (a ∷ []) ≡ Some r → value r ≡ pos (unsigned_abs (value a))
+unfolding well_typed_operation
+size_well_typed t a r j k h e =
+    let p = and_parts (t.unsigned && not a.ty.unsigned) (a.ty.width == t.width) h in
+    let q = and_parts t.unsigned (not a.ty.unsigned) p.0 in
+    size_is t a r j k q.0 (signed a.ty.unsigned q.1) (eqb-true a.ty.width t.width p.1) e
+  where
+    signed : (b : Bool) → not b ≡ true → b ≡ false
+    signed true f = cc
+    signed false f = refl

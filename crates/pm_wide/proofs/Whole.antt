@@ -1,5 +1,5 @@
 -- Laws of the ring of whole numbers that the kit doesn't state.
-use Rattle.std.proofs.Common.{◌≡◌, ℕ, ◌*◌, Bool, true, false, not, refl, ap, ◌∙◌, arith}
+use Rattle.std.proofs.Common.{◌≡◌, ◌*◌, Bool, true, false, not, refl, ap, ◌∙◌, arith}
 use Rattle.std.specs.Int.RustNames.{int_lt, int_le}
 use Rattle.std.specs.Prelude.{ℤ, pos, neg_ℤ, ◌+ℤ◌, ◌-ℤ◌, ◌*ℤ◌}
 use Rattle.std.proofs.lemmas.Int.{ints}

@@ -53,6 +53,10 @@ word_congruent t z = subst (λ x. Congruent t.width x z) (sym (rest_is t.width z
 pub same_word : (t : Ty) (a b : ℤ) → Congruent t.width a b → word_of t a ≡ word_of t b
 same_word t a b h = ap unsigned_abs (same_rest t.width a b h)
 
+-- and whole numbers with one word are congruent
+pub one_class : (t : Ty) (a b : ℤ) → word_of t a ≡ word_of t b → Congruent t.width a b
+one_class t a b e = joined t.width a (pos (word_of t a)) b (turned t.width _ _ (word_congruent t a)) (subst (λ n. Congruent t.width (pos n) b) (sym e) (word_congruent t b))
+
 -- and the word of a word is that word
 pub word-pos : (t : Ty) (n : ℕ) → word_of t (pos n) ≡ n % 2 ^ t.width
 word-pos t n = refl
@@ -96,6 +100,7 @@ span t h = by t.unsigned
   where
     some : (k : ℕ) → 0 < 2 ^ k
     some k = pow_pos k
+
     by : (u : Bool) → cond u (pos (2 ^ t.width - 1)) (pos (2 ^ (t.width - 1) - 1)) +ℤ pos 1 ≡ cond u (pos 0) (neg_ℤ (pos (2 ^ (t.width - 1)))) +ℤ pos (2 ^ t.width)
     by true = omega (arith, ints, some t.width)
     by false = omega (arith, ints, some (t.width - 1), halves t.width h)
@@ -106,11 +111,13 @@ value_within t n w h = by t.unsigned
   where
     double : 2 ^ t.width ≡ 2 ^ (t.width - 1) + 2 ^ (t.width - 1)
     double = halves t.width w
+
     signed : (low : Bool) → nat_lt n (2 ^ (t.width - 1)) ≡ low → (neg_ℤ (pos (2 ^ (t.width - 1))) ≤ℤ cond low (pos n) (pos n -ℤ pos (2 ^ t.width))) × (cond low (pos n) (pos n -ℤ pos (2 ^ t.width)) ≤ℤ pos (2 ^ (t.width - 1) - 1))
     signed true e = let s = ltb-true _ _ e in (omega (arith, ints), omega (arith, ints))
     signed false e = let s = ltb-false _ _ e in (omega (arith, ints, double), omega (arith, ints, double))
+
     by : (u : Bool) → (cond u (pos 0) (neg_ℤ (pos (2 ^ (t.width - 1)))) ≤ℤ cond (u || nat_lt n (2 ^ (t.width - 1))) (pos n) (pos n -ℤ pos (2 ^ t.width)))
-      × (cond (u || nat_lt n (2 ^ (t.width - 1))) (pos n) (pos n -ℤ pos (2 ^ t.width)) ≤ℤ cond u (pos (2 ^ t.width - 1)) (pos (2 ^ (t.width - 1) - 1)))
+        × (cond (u || nat_lt n (2 ^ (t.width - 1))) (pos n) (pos n -ℤ pos (2 ^ t.width)) ≤ℤ cond u (pos (2 ^ t.width - 1)) (pos (2 ^ (t.width - 1) - 1)))
     by true = (omega (arith, ints), omega (arith, ints))
     by false = signed (nat_lt n (2 ^ (t.width - 1))) refl
 
@@ -123,10 +130,13 @@ one_value t a b w p q h = by h.multiple h.differ
   where
     f : (least t ≤ℤ a) × (a ≤ℤ greatest t)
     f = bounds t a p
+
     g : (least t ≤ℤ b) × (b ≤ℤ greatest t)
     g = bounds t b q
+
     far : (k : ℕ) → 2 ^ t.width ≤ suc k * 2 ^ t.width
     far k = omega arith
+
     by : (k : ℤ) → a ≡ b +ℤ k *ℤ pos (2 ^ t.width) → a ≡ b
     by (pos zero) e = omega (arith, ints, e)
     by (pos (suc k)) e = absurd (omega (arith, ints, e, f.0, f.1, g.0, g.1, span t w, far k))

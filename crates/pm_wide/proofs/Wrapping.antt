@@ -1,6 +1,6 @@
 -- What arithmetic on 128 bits leaves of exact results.
-use Rattle.std.proofs.Common.{◌≡◌, ℕ, zero, suc, ◌+◌, ◌-◌, ◌*◌, ◌%◌, ◌^◌, ◌≤◌, ◌<◌, Bool, true, false, cond, refl, sym, ap, subst, ◌∙◌, arith}
-use Rattle.std.specs.Prelude.{ℤ, pos, negsuc, neg_ℤ, ◌+ℤ◌, ◌-ℤ◌, ◌*ℤ◌, ◌≤ℤ◌, IsTrue}
+use Rattle.std.proofs.Common.{◌≡◌, ℕ, ◌+◌, ◌-◌, ◌*◌, ◌%◌, ◌^◌, ◌≤◌, ◌<◌, Bool, true, false, cond, refl, sym, ap, ◌∙◌, arith}
+use Rattle.std.specs.Prelude.{ℤ, pos, neg_ℤ, ◌+ℤ◌, ◌-ℤ◌, ◌*ℤ◌, ◌≤ℤ◌, IsTrue}
 use Rattle.std.specs.Int.RustNames.{unsigned_abs}
 use Rattle.std.proofs.lemmas.Int.{ints}
 use Rattle.std.specs.Prelude.{bit_and, bit_or, bit_xor}
@@ -8,8 +8,8 @@ use Rattle.std.proofs.lemmas.Nat.{pow_pos, pow-add, mod_low, and_le_l, or_lt, xo
 use Rattle.std.proofs.Math.Nat.{mod-eq_of_lt}
 use Rattle.std.proofs.Math.Pow.{pow_mono}
 use Rattle.pm_wide.specs.Congruence.{Congruent}
-use Rattle.pm_wide.specs.Types.{Ty, value_of, word_of, in_range, least, greatest}
-use Rattle.pm_wide.proofs.Congruence.{same, joined, turned, sums, differences, products, times, fewer}
+use Rattle.pm_wide.specs.Types.{Ty, value_of, word_of, in_range}
+use Rattle.pm_wide.proofs.Congruence.{joined, turned, sums, differences, products, times, fewer}
 use Rattle.pm_wide.proofs.Words.{rest_congruent, same_word, value_congruent, bounds}
 
 -- what 128 bits leave of n, reduced, is the word of every z that is congruent to n
@@ -22,6 +22,7 @@ word_of_low t n z w h =
 module _ (t : Ty) (a b : ℕ) (w : t.width ≤ 128) where
   x : Congruent t.width (pos a) (value_of t a)
   x = turned t.width _ _ (value_congruent t a)
+
   y : Congruent t.width (pos b) (value_of t b)
   y = turned t.width _ _ (value_congruent t b)
 

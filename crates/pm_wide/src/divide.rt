@@ -28,11 +28,9 @@ pub fn remainder(ty: IntType, a: Wide, b: Wide) -> Result<Wide, Undefined>
 
 /// The quotient, unless the divisor is 0 or the quotient is no value of the type.
 fn in_range_quotient(ty: IntType, a: Wide, b: Wide) -> Result<Number, Undefined>
-    ensures {
-        MatchResult result
+    ensures { MatchResult result
         (λ z. IsTrue (divides ty (value a) (value b)) × (z ≡ int_div (value a) (value b)))
-        (λ _. ¬ IsTrue (divides ty (value a) (value b)))
-    }
+        (λ _. ¬ IsTrue (divides ty (value a) (value b))) }
 {
     let divisor = b.value();
     if divisor.is_zero() {

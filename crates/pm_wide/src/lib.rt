@@ -5,15 +5,16 @@
 mod arithmetic;
 mod bitwise;
 mod divide;
+pub mod laws;
 mod number;
 mod operand;
 mod operation;
 mod order;
 mod overflow;
 mod shift;
-mod ty;
 #[cfg(test)]
 mod tests;
+mod ty;
 mod typing;
 mod undefined;
 mod wide;

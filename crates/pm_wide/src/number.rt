@@ -140,11 +140,9 @@ impl Number {
 
     /// The number, where it is from 0 to below a bound.
     pub fn below(&self, bound: u8) -> Option<u8>
-        ensures {
-            MatchOption result
+        ensures { MatchOption result
             (¬ IsTrue (int_le (pos 0) self.now && int_lt self.now (pos bound)))
-            (λ n. IsTrue (int_le (pos 0) self.now && int_lt self.now (pos bound)) × (n ≡ unsigned_abs self.now) × (n < bound))
-        }
+            (λ n. IsTrue (int_le (pos 0) self.now && int_lt self.now (pos bound)) × (n ≡ unsigned_abs self.now) × (n < bound)) }
     {
         if (!self.negative || self.magnitude == 0) && self.magnitude < bound as u128 {
             Some(self.magnitude as u8)

@@ -1,22 +1,27 @@
-ghost use Rattle.std.specs.Prelude.{◌≡◌, IsTrue, map};
+ghost use Rattle.std.specs.Prelude.{◌≡◌, IfOk, IsTrue, map};
 ghost use Rattle.std.specs.Option.{ok_or};
 ghost use Rattle.pm_wide.specs.Types.{Word};
 ghost use Rattle.pm_wide.specs.Typing.{well_typed_operation, well_typed_unary, well_typed_binary, well_typed_ternary};
 ghost use Rattle.pm_wide.specs.Operations.{operation_value, unary_value, binary_value, ternary_value};
 
-use crate::arithmetic;
-use crate::bitwise;
-use crate::divide;
-use crate::order;
-use crate::shift;
 use crate::ty::IntType;
 use crate::undefined::Undefined;
 use crate::wide::Wide;
+use crate::{arithmetic, bitwise, divide, order, shift};
 use pm_ops::Code;
 
 /// The value of an operation on words, or `Undefined` where the operation table gives none.
-#[tactic(auto, unfolding(crate::specs::Operations::operation_value, crate::specs::Typing::well_typed_operation))]
 pub fn op_value(code: Code, ty: IntType, args: &[Wide]) -> Result<Wide, Undefined>
+    requires { IsTrue (well_typed_operation code ty (map (λ (w : Word). w.ty) args.now)) }
+    ensures value { result ≡ ok_or (operation_value code ty args.now) (record {}) }
+    ensures typed { IfOk result (λ w. w.ty ≡ ty) }
+{
+    by_operands(code, ty, args)
+}
+
+/// The same, by the number of operands.
+#[tactic(auto, unfolding(crate::specs::Operations::operation_value, crate::specs::Typing::well_typed_operation))]
+fn by_operands(code: Code, ty: IntType, args: &[Wide]) -> Result<Wide, Undefined>
     requires { IsTrue (well_typed_operation code ty (map (λ (w : Word). w.ty) args.now)) }
     ensures { result ≡ ok_or (operation_value code ty args.now) (record {}) }
 {

@@ -44,11 +44,9 @@ fn shifted_up(ty: IntType, a: Wide, places: u8) -> Wide
 
 /// The count, where it is from 0 to below the width of the type.
 fn places(ty: IntType, count: Wide) -> Option<u8>
-    ensures cases {
-        MatchOption result
+    ensures cases { MatchOption result
         (¬ IsTrue (shifts ty (value count)))
-        (λ n. IsTrue (shifts ty (value count)) × (n ≡ unsigned_abs (value count)))
-    }
+        (λ n. IsTrue (shifts ty (value count)) × (n ≡ unsigned_abs (value count))) }
     ensures bound { MatchOption result (Unit {0}) (λ n. n < ty.width) }
     ensures known { ty.width ≤ 128 }
 {

@@ -2,7 +2,10 @@
 //! language.
 ghost use Rattle.std.specs.Prelude.{◌≡◌, ◌↔◌, IsTrue};
 
-use crate::{IntType, Operand, Undefined, Wide, add_overflow, mul_overflow, neg_overflow, op_value, sub_overflow, well_typed};
+use crate::{
+    IntType, Operand, Undefined, Wide, add_overflow, mul_overflow, neg_overflow, op_value,
+    sub_overflow, well_typed,
+};
 use pm_ops::Code;
 use std::process::Abort;
 
@@ -45,7 +48,14 @@ fn binary(rt: &impl Abort, code: Code, ty: IntType, a: Wide, b: Wide) -> Result<
     op_value(code, ty, &[a, b])
 }
 
-fn ternary(rt: &impl Abort, code: Code, ty: IntType, a: Wide, b: Wide, c: Wide) -> Result<Wide, Undefined> {
+fn ternary(
+    rt: &impl Abort,
+    code: Code,
+    ty: IntType,
+    a: Wide,
+    b: Wide,
+    c: Wide,
+) -> Result<Wide, Undefined> {
     assert!(rt; well_typed(code, ty, &[a.ty(), b.ty(), c.ty()]));
     op_value(code, ty, &[a, b, c])
 }
@@ -60,7 +70,11 @@ fn ends() -> [(IntType, i128, i128); 11] {
         (IntType::unsigned_short(), 0, 65_535),
         (IntType::int(), -2_147_483_648, 2_147_483_647),
         (IntType::unsigned_int(), 0, 4_294_967_295),
-        (IntType::long(), -9_223_372_036_854_775_808, 9_223_372_036_854_775_807),
+        (
+            IntType::long(),
+            -9_223_372_036_854_775_808,
+            9_223_372_036_854_775_807,
+        ),
         (IntType::unsigned_long(), 0, 18_446_744_073_709_551_615),
         (IntType::int128(), i128::MIN, i128::MAX),
         (IntType::unsigned_int128(), 0, -1),
@@ -104,13 +118,29 @@ fn two_operands_at_the_ends(rt: HostRuntime) {
         let greatest = word(greatest, ty);
         for (code, unsigned, signed) in apart {
             let gives = if ty.unsigned() { unsigned } else { signed };
-            assert_eq!(rt; binary(&rt, code, ty, least, greatest), expected(gives, ty, least, greatest), "{code:?} of the ends of {ty:?}");
+            assert_eq!(rt;
+                binary(&rt, code, ty, least, greatest),
+                expected(gives, ty, least, greatest),
+                "{code:?} of the ends of {ty:?}"
+            );
         }
         for (code, unsigned, signed, unsigned_least, signed_least) in same {
             let gives = if ty.unsigned() { unsigned } else { signed };
-            assert_eq!(rt; binary(&rt, code, ty, greatest, greatest), expected(gives, ty, least, greatest), "{code:?} of the greatest of {ty:?}");
-            let gives = if ty.unsigned() { unsigned_least } else { signed_least };
-            assert_eq!(rt; binary(&rt, code, ty, least, least), expected(gives, ty, least, greatest), "{code:?} of the least of {ty:?}");
+            assert_eq!(rt;
+                binary(&rt, code, ty, greatest, greatest),
+                expected(gives, ty, least, greatest),
+                "{code:?} of the greatest of {ty:?}"
+            );
+            let gives = if ty.unsigned() {
+                unsigned_least
+            } else {
+                signed_least
+            };
+            assert_eq!(rt;
+                binary(&rt, code, ty, least, least),
+                expected(gives, ty, least, greatest),
+                "{code:?} of the least of {ty:?}"
+            );
         }
     }
 }
@@ -118,18 +148,32 @@ fn two_operands_at_the_ends(rt: HostRuntime) {
 #[test]
 fn one_operand_at_the_ends(rt: HostRuntime) {
     // what unsigned types give, and signed ones
-    let at_least = [(Code::BitNot, Greatest, Greatest), (Code::Negate, Word(0), Nothing)];
-    let at_greatest = [(Code::BitNot, Least, Least), (Code::Negate, Word(1), LeastPlusOne)];
+    let at_least = [
+        (Code::BitNot, Greatest, Greatest),
+        (Code::Negate, Word(0), Nothing),
+    ];
+    let at_greatest = [
+        (Code::BitNot, Least, Least),
+        (Code::Negate, Word(1), LeastPlusOne),
+    ];
     for (ty, least, greatest) in ends() {
         let least = word(least, ty);
         let greatest = word(greatest, ty);
         for (code, unsigned, signed) in at_least {
             let gives = if ty.unsigned() { unsigned } else { signed };
-            assert_eq!(rt; unary(&rt, code, ty, least), expected(gives, ty, least, greatest), "{code:?} of the least of {ty:?}");
+            assert_eq!(rt;
+                unary(&rt, code, ty, least),
+                expected(gives, ty, least, greatest),
+                "{code:?} of the least of {ty:?}"
+            );
         }
         for (code, unsigned, signed) in at_greatest {
             let gives = if ty.unsigned() { unsigned } else { signed };
-            assert_eq!(rt; unary(&rt, code, ty, greatest), expected(gives, ty, least, greatest), "{code:?} of the greatest of {ty:?}");
+            assert_eq!(rt;
+                unary(&rt, code, ty, greatest),
+                expected(gives, ty, least, greatest),
+                "{code:?} of the greatest of {ty:?}"
+            );
         }
     }
 }
@@ -150,9 +194,21 @@ fn comparisons_at_the_ends(rt: HostRuntime) {
         let least = word(least, ty);
         let greatest = word(greatest, ty);
         for (code, rising, falling, same) in rows {
-            assert_eq!(rt; binary(&rt, code, boolean, least, greatest), Ok(word(rising, boolean)), "{code:?} at {ty:?}");
-            assert_eq!(rt; binary(&rt, code, boolean, greatest, least), Ok(word(falling, boolean)), "{code:?} at {ty:?}");
-            assert_eq!(rt; binary(&rt, code, boolean, greatest, greatest), Ok(word(same, boolean)), "{code:?} at {ty:?}");
+            assert_eq!(rt;
+                binary(&rt, code, boolean, least, greatest),
+                Ok(word(rising, boolean)),
+                "{code:?} at {ty:?}"
+            );
+            assert_eq!(rt;
+                binary(&rt, code, boolean, greatest, least),
+                Ok(word(falling, boolean)),
+                "{code:?} at {ty:?}"
+            );
+            assert_eq!(rt;
+                binary(&rt, code, boolean, greatest, greatest),
+                Ok(word(same, boolean)),
+                "{code:?} at {ty:?}"
+            );
         }
     }
 }
@@ -169,19 +225,41 @@ fn words_worked_by_hand(rt: HostRuntime) {
         (Code::Abs, small, -128, small, Nothing),
         (Code::Abs, small, -127, small, Word(127)),
         (Code::Absu, byte, -128, small, Word(128)),
-        (Code::Absu, IntType::unsigned_int128(), i128::MIN, wide, Word(i128::MIN)),
+        (
+            Code::Absu,
+            IntType::unsigned_int128(),
+            i128::MIN,
+            wide,
+            Word(i128::MIN),
+        ),
         (Code::Convert, small, 300, int, Word(44)),
         (Code::Convert, small, 200, byte, Word(-56)),
         (Code::Convert, boolean, 300, int, Word(0)),
         (Code::Convert, boolean, -1, int, Word(1)),
         (Code::Convert, long, -5, small, Word(-5)),
-        (Code::Convert, IntType::unsigned_long(), -1, small, Word(18_446_744_073_709_551_615)),
-        (Code::Convert, wide, i128::MIN, IntType::unsigned_int128(), Word(i128::MIN)),
+        (
+            Code::Convert,
+            IntType::unsigned_long(),
+            -1,
+            small,
+            Word(18_446_744_073_709_551_615),
+        ),
+        (
+            Code::Convert,
+            wide,
+            i128::MIN,
+            IntType::unsigned_int128(),
+            Word(i128::MIN),
+        ),
         (Code::Negate, small, 127, small, Word(-127)),
     ];
     for (code, ty, a, a_type, gives) in unary_rows {
         let a = word(a, a_type);
-        assert_eq!(rt; unary(&rt, code, ty, a), expected(gives, ty, a, a), "{code:?} of {a:?}");
+        assert_eq!(rt;
+            unary(&rt, code, ty, a),
+            expected(gives, ty, a, a),
+            "{code:?} of {a:?}"
+        );
     }
     let binary_rows = [
         (Code::Lshift, int, 1, 31, int, Word(-2_147_483_648)),
@@ -210,10 +288,24 @@ fn words_worked_by_hand(rt: HostRuntime) {
     for (code, ty, a, b, b_type, gives) in binary_rows {
         let a = word(a, ty);
         let b = word(b, b_type);
-        assert_eq!(rt; binary(&rt, code, ty, a, b), expected(gives, ty, a, b), "{code:?} of {a:?} and {b:?}");
+        assert_eq!(rt;
+            binary(&rt, code, ty, a, b),
+            expected(gives, ty, a, b),
+            "{code:?} of {a:?} and {b:?}"
+        );
     }
     for (test, gives) in [(1, 5), (0, 7)] {
-        assert_eq!(rt; ternary(&rt, Code::Cond, int, word(test, boolean), word(5, int), word(7, int)), Ok(word(gives, int)));
+        assert_eq!(rt;
+            ternary(
+                &rt,
+                Code::Cond,
+                int,
+                word(test, boolean),
+                word(5, int),
+                word(7, int)
+            ),
+            Ok(word(gives, int))
+        );
     }
 }
 
@@ -231,20 +323,62 @@ fn overflowing_words(rt: HostRuntime) {
         (byte, 255, 1, (0, true), (254, false), (255, false)),
         (byte, 0, 1, (1, false), (255, true), (0, false)),
         (byte, 16, 16, (32, false), (0, false), (0, true)),
-        (unsigned, 1 << 64, 1 << 64, (1 << 65, false), (0, false), (0, true)),
-        (unsigned, 1 << 64, 1 << 63, (3 << 63, false), (1 << 63, false), (i128::MIN, false)),
+        (
+            unsigned,
+            1 << 64,
+            1 << 64,
+            (1 << 65, false),
+            (0, false),
+            (0, true),
+        ),
+        (
+            unsigned,
+            1 << 64,
+            1 << 63,
+            (3 << 63, false),
+            (1 << 63, false),
+            (i128::MIN, false),
+        ),
         (unsigned, -1, -1, (-2, true), (0, false), (1, true)),
-        (wide, i128::MIN, -1, (i128::MAX, true), (i128::MIN + 1, false), (i128::MIN, true)),
+        (
+            wide,
+            i128::MIN,
+            -1,
+            (i128::MAX, true),
+            (i128::MIN + 1, false),
+            (i128::MIN, true),
+        ),
     ];
     for (ty, a, b, sum, difference, product) in rows {
         let a = word(a, ty).bits();
         let b = word(b, ty).bits();
-        assert_eq!(rt; add_overflow(a, b, ty), (word(sum.0, ty).bits(), sum.1), "{a} + {b} at {ty:?}");
-        assert_eq!(rt; sub_overflow(a, b, ty), (word(difference.0, ty).bits(), difference.1), "{a} - {b} at {ty:?}");
-        assert_eq!(rt; mul_overflow(a, b, ty), (word(product.0, ty).bits(), product.1), "{a} * {b} at {ty:?}");
+        assert_eq!(rt;
+            add_overflow(a, b, ty),
+            (word(sum.0, ty).bits(), sum.1),
+            "{a} + {b} at {ty:?}"
+        );
+        assert_eq!(rt;
+            sub_overflow(a, b, ty),
+            (word(difference.0, ty).bits(), difference.1),
+            "{a} - {b} at {ty:?}"
+        );
+        assert_eq!(rt;
+            mul_overflow(a, b, ty),
+            (word(product.0, ty).bits(), product.1),
+            "{a} * {b} at {ty:?}"
+        );
     }
-    for (ty, a, negative) in [(small, -128, (-128, true)), (small, 127, (-127, false)), (byte, 1, (255, true)), (byte, 0, (0, false))] {
-        assert_eq!(rt; neg_overflow(word(a, ty).bits(), ty), (word(negative.0, ty).bits(), negative.1), "{a} at {ty:?}");
+    for (ty, a, negative) in [
+        (small, -128, (-128, true)),
+        (small, 127, (-127, false)),
+        (byte, 1, (255, true)),
+        (byte, 0, (0, false)),
+    ] {
+        assert_eq!(rt;
+            neg_overflow(word(a, ty).bits(), ty),
+            (word(negative.0, ty).bits(), negative.1),
+            "{a} at {ty:?}"
+        );
     }
 }
 

@@ -63,77 +63,110 @@ impl IntType {
     pub fn boolean() -> IntType
         ensures { result ≡ bool_type }
     {
-        IntType { bits: 1, unsigned: true }
+        IntType {
+            bits: 1,
+            unsigned: true,
+        }
     }
 
     /// `signed char`.
     pub fn signed_char() -> IntType
         ensures { result ≡ signed_char_type }
     {
-        IntType { bits: 8, unsigned: false }
+        IntType {
+            bits: 8,
+            unsigned: false,
+        }
     }
 
     /// `unsigned char`.
     pub fn unsigned_char() -> IntType
         ensures { result ≡ unsigned_char_type }
     {
-        IntType { bits: 8, unsigned: true }
+        IntType {
+            bits: 8,
+            unsigned: true,
+        }
     }
 
     /// `short`.
     pub fn short() -> IntType
         ensures { result ≡ short_type }
     {
-        IntType { bits: 16, unsigned: false }
+        IntType {
+            bits: 16,
+            unsigned: false,
+        }
     }
 
     /// `unsigned short`.
     pub fn unsigned_short() -> IntType
         ensures { result ≡ unsigned_short_type }
     {
-        IntType { bits: 16, unsigned: true }
+        IntType {
+            bits: 16,
+            unsigned: true,
+        }
     }
 
     /// `int`.
     pub fn int() -> IntType
         ensures { result ≡ int_type }
     {
-        IntType { bits: 32, unsigned: false }
+        IntType {
+            bits: 32,
+            unsigned: false,
+        }
     }
 
     /// `unsigned int`.
     pub fn unsigned_int() -> IntType
         ensures { result ≡ unsigned_int_type }
     {
-        IntType { bits: 32, unsigned: true }
+        IntType {
+            bits: 32,
+            unsigned: true,
+        }
     }
 
     /// `long`.
     pub fn long() -> IntType
         ensures { result ≡ long_type }
     {
-        IntType { bits: 64, unsigned: false }
+        IntType {
+            bits: 64,
+            unsigned: false,
+        }
     }
 
     /// `unsigned long`.
     pub fn unsigned_long() -> IntType
         ensures { result ≡ unsigned_long_type }
     {
-        IntType { bits: 64, unsigned: true }
+        IntType {
+            bits: 64,
+            unsigned: true,
+        }
     }
 
     /// `__int128`.
     pub fn int128() -> IntType
         ensures { result ≡ int128_type }
     {
-        IntType { bits: 128, unsigned: false }
+        IntType {
+            bits: 128,
+            unsigned: false,
+        }
     }
 
     /// `unsigned __int128`.
     pub fn unsigned_int128() -> IntType
         ensures { result ≡ unsigned_int128_type }
     {
-        IntType { bits: 128, unsigned: true }
+        IntType {
+            bits: 128,
+            unsigned: true,
+        }
     }
 }
 
