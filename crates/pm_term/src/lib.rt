@@ -4,10 +4,12 @@
 //! value is `specs/Terms`.
 #![tactic(auto)]
 
+mod count;
 mod environment;
 mod fault;
 mod term;
 mod typed;
+mod value;
 
 pub use environment::Env;
 pub use fault::BuildFault;

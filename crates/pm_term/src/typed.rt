@@ -1,24 +1,25 @@
 //! Well-typed terms: made of operands and operations, read, copied, compared, counted and valued.
-ghost use Rattle.std.specs.Prelude.{◌≡◌, ◌↔◌, ◌^◌, ◌-◌, ◌≤◌, min, map, length, IfOk, OnOk, IsErrOf, IsTrue, false};
+ghost use Rattle.std.specs.Prelude.{◌≡◌, ◌↔◌, ◌^◌, ◌-◌, min, map, IfOk, OnOk, IsErrOf, IsTrue, false};
 ghost use Rattle.std.specs.Option.{ok_or};
 ghost use Rattle.pm_wide.specs.Typing.{well_typed_operation};
 ghost use Rattle.pm_term.specs.declared.fault.BuildFault.TheVariants.{IllTyped};
-ghost use Rattle.pm_term.specs.Environments.{assigned, HasNames, HaveNames};
-ghost use Rattle.pm_term.specs.Terms.{operation_on, term_value, term_values};
-ghost use Rattle.pm_term.specs.TermTrees.{tree_of, trees_of};
-ghost use Rattle.pm_term.specs.Trees.{leaf, node, trees, type_of, types_of, operations, operations_of, IsWellTyped, AreWellTyped};
+ghost use Rattle.pm_term.specs.Environments.{assigned, HasNames};
+ghost use Rattle.pm_term.specs.Terms.{term_value};
+ghost use Rattle.pm_term.specs.TermTrees.{tree_of};
+ghost use Rattle.pm_term.specs.Trees.{leaf, node, trees, type_of, operations, IsWellTyped, AreWellTyped};
 
 use crate::environment::Env;
 use crate::fault::BuildFault;
 use crate::term::Term;
+use crate::{count, value};
 use pm_items::Items;
 use pm_ops::{Code, OutOfMemory};
-use pm_wide::{IntType, Operand, Undefined, Wide, op_value, well_typed};
+use pm_wide::{IntType, Operand, Undefined, Wide, well_typed};
 use std::alloc::Global;
 use std::marker::Model;
 
 /// A well-typed term. Contracts see its plain tree.
-#[derive(Debug, Drop)]
+#[derive(Debug, PartialEq, Eq, Drop)]
 pub struct Typed {
     term: Term,
 }
@@ -118,16 +119,24 @@ impl Typed {
     pub fn operators(&self) -> usize
         ensures { result ≡ min (operations self.now) (2 ^ 64 - 1) }
     {
-        operators_of(&self.term)
+        count::operators_of(&self.term)
+    }
+
+    /// Whether the environment has each of its names, with its type.
+    pub fn names_are_in(&self, env: &Env) -> bool
+        ensures { IsTrue result ↔ HasNames env.now.words self.now }
+    {
+        value::has_names(env, &self.term)
     }
 
     /// Its value where the environment gives the words of its names, or `Undefined` where any of its operations has
-    /// none. Takes no memory.
+    /// none, also in the part of a `cond` that isn't chosen. Takes no memory.
     pub fn value(&self, env: &Env) -> Result<Wide, Undefined>
         requires { HasNames env.now.words self.now }
-        ensures { result ≡ ok_or (term_value (assigned env.now.words) self.now) (record {}) }
+        ensures value { result ≡ ok_or (term_value (assigned env.now.words) self.now) (record {}) }
+        ensures typed { IfOk result (λ w. w.ty ≡ type_of self.now) }
     {
-        value_of(&self.term, env)
+        value::value_of(&self.term, env)
     }
 }
 
@@ -155,68 +164,4 @@ fn terms(alloc: Global, args: Items<Typed>) -> Result<Items<Term>, OutOfMemory>
         terms.push(term)?;
     }
     Ok(terms)
-}
-
-#[cycle(operators)]
-fn operators_of(term: &Term) -> usize
-    ensures { result ≡ min (operations (tree_of term.now)) (2 ^ 64 - 1) }
-{
-    match term {
-        Term::Name(..) | Term::Const(_) => 0,
-        Term::Node(_, _, args) => operators_in(args.as_slice()).saturating_add(1),
-    }
-}
-
-#[cycle(operators)]
-fn operators_in(terms: &[Term]) -> usize
-    ensures { result ≡ min (operations_of (trees_of terms.now)) (2 ^ 64 - 1) }
-{
-    let mut count: usize = 0;
-    for term in terms {
-        count = count.saturating_add(operators_of(term));
-    }
-    count
-}
-
-#[cycle(value)]
-fn value_of(term: &Term, env: &Env) -> Result<Wide, Undefined>
-    requires well_typed { IsWellTyped (tree_of term.now) }
-    requires has_names { HasNames env.now.words (tree_of term.now) }
-    ensures value { result ≡ ok_or (term_value (assigned env.now.words) (tree_of term.now)) (record {}) }
-    ensures typed { IfOk result (λ w. w.ty ≡ type_of (tree_of term.now)) }
-{
-    match term {
-        Term::Name(version, ty) => Ok(env.assigned(*version, *ty)),
-        Term::Const(word) => Ok(*word),
-        Term::Node(code, ty, args) => value_on(*code, *ty, args.as_slice(), env),
-    }
-}
-
-/// The value of an operation on these terms.
-#[cycle(value)]
-fn value_on(code: Code, ty: IntType, args: &[Term], env: &Env) -> Result<Wide, Undefined>
-    requires operation { IsTrue (well_typed_operation code ty (types_of (trees_of args.now))) }
-    requires well_typed { AreWellTyped (trees_of args.now) }
-    requires has_names { HaveNames env.now.words (trees_of args.now) }
-    ensures value { result ≡ ok_or (operation_on code ty (term_values (assigned env.now.words) (trees_of args.now))) (record {}) }
-    ensures typed { IfOk result (λ w. w.ty ≡ ty) }
-{
-    match args {
-        [a] => {
-            let a = value_of(a, env)?;
-            op_value(code, ty, &[a])
-        }
-        [a, b] => {
-            let a = value_of(a, env)?;
-            let b = value_of(b, env)?;
-            op_value(code, ty, &[a, b])
-        }
-        [a, b, c] => {
-            let a = value_of(a, env)?;
-            let b = value_of(b, env)?;
-            let c = value_of(c, env)?;
-            op_value(code, ty, &[a, b, c])
-        }
-        _ => Err(Undefined),
-    }
 }

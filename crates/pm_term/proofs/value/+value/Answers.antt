@@ -1,7 +1,7 @@
 use Rattle.std.proofs.Common.{arith}
 use Rattle.pm_term.proofs.TreeLemmas.{too_few_terms, too_many_terms}
-use Rattle.pm_term.proofs.typed.+value.Goals as goal
-use Rattle.pm_term.proofs.typed.+value.Goals.{value_on-in_default-via-then-args-lt1, value_on-in_default-via-else-args-lt1+else-args-lt2+else-args-lt3+else-args-lt4}
+use Rattle.pm_term.proofs.value.+value.Goals as goal
+use Rattle.pm_term.proofs.value.+value.Goals.{value_on-in_default-via-then-args-lt1, value_on-in_default-via-else-args-lt1+else-args-lt2+else-args-lt3+else-args-lt4}
 
 pub value_on-returns-in_default-clause-value : goal.value_on-returns-in_default-clause-value
 value_on-returns-in_default-clause-value t c =

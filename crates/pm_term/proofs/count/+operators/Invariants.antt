@@ -1,7 +1,7 @@
 use Rattle.std.proofs.Common.{◌≡◌, ◌+◌, ◌-◌, ◌^◌, ◌≤◌, min, drop}
 use Rattle.pm_term.specs.TermTrees.{trees_of}
 use Rattle.pm_term.specs.Trees.{operations_of}
-use Rattle.pm_term.proofs.typed.+operators.Given as goal
+use Rattle.pm_term.proofs.count.+operators.Given as goal
 
 abbrev pub invariant-operators_in-loop-term : goal.invariant-operators_in-loop-term
 invariant-operators_in-loop-term l =
