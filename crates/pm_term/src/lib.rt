@@ -7,7 +7,10 @@
 mod count;
 mod environment;
 mod fault;
+pub mod laws;
 mod term;
+#[cfg(test)]
+mod tests;
 mod typed;
 mod value;
 

@@ -65,7 +65,12 @@ impl Typed {
 
     /// The operation on these terms, with a result of that type, or a refusal where it isn't well typed. After a
     /// refusal the terms are dropped.
-    pub fn build(alloc: Global, code: Code, ty: IntType, args: Items<Typed>) -> Result<Typed, BuildFault>
+    pub fn build(
+        alloc: Global,
+        code: Code,
+        ty: IntType,
+        args: Items<Typed>,
+    ) -> Result<Typed, BuildFault>
         ensures ok { IfOk result (λ t. t ≡ node code ty (trees args)) }
         ensures ill_typed { IsErrOf result BuildFault.IllTyped ↔ (well_typed_operation code ty (map type_of args) ≡ false) }
     {

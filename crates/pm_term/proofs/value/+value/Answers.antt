@@ -7,8 +7,8 @@ pub value_on-returns-in_default-clause-value : goal.value_on-returns-in_default-
 value_on-returns-in_default-clause-value t c =
     let yes = c.requires.operation in
     elim c.in_default.branch [
-      value_on-in_default-via-then-args-lt1 w ↦
-        let no = too_few_terms c.args.code c.args.ty c.args.args.now (grind arith) in cc
+      | value_on-in_default-via-then-args-lt1 w ↦
+          let no = too_few_terms c.args.code c.args.ty c.args.args.now (grind arith) in cc
       | value_on-in_default-via-else-args-lt1+else-args-lt2+else-args-lt3+else-args-lt4 w ↦
-        let no = too_many_terms c.args.code c.args.ty c.args.args.now (grind arith) in cc
+          let no = too_many_terms c.args.code c.args.ty c.args.args.now (grind arith) in cc
     ]
