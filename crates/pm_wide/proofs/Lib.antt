@@ -1,4 +1,5 @@
 pub mod Congruence
+pub mod Partial
 pub mod Results
 pub mod Values
 pub mod Whole

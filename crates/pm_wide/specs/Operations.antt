@@ -1,16 +1,19 @@
--- The operation table: the value of each operation on whole numbers without bound, or none where it is undefined.
-use Rattle.std.specs.Prelude.{ℕ, ◌-◌, ◌^◌, ◌==◌, Bool, not, ◌&&◌, ◌||◌, if◌then◌else◌, Option, Some, None, List, [], ◌∷◌, ℤ, pos, neg_ℤ, ◌+ℤ◌, ◌-ℤ◌, ◌*ℤ◌, bit_and, bit_or, bit_xor}
+-- The operation table: the value of each operation on whole numbers without bound, or none where
+-- it is undefined. `int_div` rounds toward zero and `int_rem` is what it leaves; `int_div_euclid`
+-- by a power of two rounds down. Operations on the bits of words are those of the words as
+-- numbers.
+use Rattle.std.specs.Prelude.{ℕ, ◌-◌, ◌^◌, ◌==◌, Bool, not, ◌&&◌, ◌||◌, if◌then◌else◌, Option, Some, None, List, [], ◌∷◌, ℤ, pos, negsuc, neg_ℤ, ◌+ℤ◌, ◌-ℤ◌, ◌*ℤ◌, bit_and, bit_or, bit_xor}
 use Rattle.std.specs.Int.{int_div_euclid, int_min, int_max}
 use Rattle.std.specs.Int.RustNames.{int_lt, int_le, int_div, int_rem, unsigned_abs}
 use Rattle.pm_ops.specs.declared.code.Code.{Code}
 use Rattle.pm_ops.specs.declared.code.Code.TheVariants.{Convert, Plus, Minus, Mult, TruncDiv, TruncMod, Negate, Abs, Absu, BitAnd, BitIor, BitXor, BitNot, Lshift, Rshift, Min, Max, Eq, Ne, Lt, Le, Gt, Ge, Cond}
-use Rattle.pm_wide.specs.Types.{Ty, Word, value, word, in_range, bool_type}
+use Rattle.pm_wide.specs.Types.{Ty, Word, least, value, word, in_range, bool_type}
 
 -- an exact result: reduced where the type has no sign, undefined out of range where it has one
 abbrev pub exact : Ty → ℤ → Option Word
 exact t z = if t.unsigned || in_range t z then Some (word t z) else None
 
--- a result that always is there, reduced
+-- a result that is always there, reduced
 abbrev pub reduced : Ty → ℤ → Option Word
 reduced t z = Some (word t z)
 
@@ -18,9 +21,11 @@ reduced t z = Some (word t z)
 abbrev pub as_word : Ty → ℕ → Option Word
 as_word t n = Some (record { bits = n; ty = t })
 
+-- a comparison's _Bool
 abbrev pub truth : Bool → Option Word
 truth b = as_word bool_type (if b then 1 else 0)
 
+-- the two are one number
 abbrev pub int_same : ℤ → ℤ → Bool
 int_same x y = int_le x y && int_le y x
 
@@ -28,10 +33,15 @@ int_same x y = int_le x y && int_le y x
 abbrev pub divides : Ty → ℤ → ℤ → Bool
 divides t x y = not (int_same y (pos 0)) && in_range t (int_div x y)
 
+-- the one quotient that leaves a signed type: of the least value by -1
+abbrev pub least_by_minus_one : Ty → ℤ → ℤ → Bool
+least_by_minus_one t x y = not t.unsigned && (int_same x (least t) && int_same y (negsuc 0))
+
 -- a count of places is there: from 0 to below the width of what is shifted
 abbrev pub shifts : Ty → ℤ → Bool
 shifts t n = int_le (pos 0) n && int_lt n (pos t.width)
 
+-- one operand: conversion, negative, size, size in the unsigned type, complement
 abbrev pub unary_value : Code → Ty → Word → Option Word
 unary_value Convert t a = reduced t (value a)
 unary_value Negate t a = exact t (neg_ℤ (value a))
@@ -40,6 +50,7 @@ unary_value Absu t a = reduced t (pos (unsigned_abs (value a)))
 unary_value BitNot t a = as_word t (2 ^ t.width - 1 - a.bits)
 unary_value _ t a = None
 
+-- two operands: arithmetic by value, bits by word, shifts, and order by value
 abbrev pub binary_value : Code → Ty → Word → Word → Option Word
 binary_value Plus t a b = exact t (value a +ℤ value b)
 binary_value Minus t a b = exact t (value a -ℤ value b)
@@ -61,6 +72,7 @@ binary_value Gt t a b = truth (int_lt (value b) (value a))
 binary_value Ge t a b = truth (int_le (value b) (value a))
 binary_value _ t a b = None
 
+-- three operands: the second where the first is 1, else the third
 abbrev pub ternary_value : Code → Ty → Word → Word → Word → Option Word
 ternary_value Cond t a b c = if a.bits == 1 then Some b else Some c
 ternary_value _ t a b c = None

@@ -64,7 +64,8 @@ greatest t = if t.unsigned then pos (2 ^ t.width - 1) else pos (2 ^ (t.width - 1
 abbrev pub in_range : Ty → ℤ → Bool
 in_range t z = int_le (least t) z && int_le z (greatest t)
 
--- the value that a word stands for: itself, or less 2 to the width from the middle on where there is a sign
+-- the value that a word stands for: itself, or less 2 to the width from the middle on where there
+-- is a sign
 abbrev pub value_of : Ty → ℕ → ℤ
 value_of t n = if t.unsigned || nat_lt n (2 ^ (t.width - 1)) then pos n else (pos n -ℤ pos (2 ^ t.width))
 

@@ -4,7 +4,8 @@ use Rattle.pm_ops.specs.declared.code.Code.{Code}
 use Rattle.pm_ops.specs.declared.code.Code.TheVariants.{Convert, Plus, Minus, Mult, TruncDiv, TruncMod, Negate, Abs, Absu, BitAnd, BitIor, BitXor, BitNot, Lshift, Rshift, Min, Max, Eq, Ne, Lt, Le, Gt, Ge, Cond}
 use Rattle.pm_wide.specs.Types.{Ty, same_type, bool_type}
 
--- one operand: any type to any type; T to T; signed T to T; signed to the unsigned type of its width
+-- one operand: any type to any type; T to T; signed T to T; signed to the unsigned type of its
+-- width
 abbrev pub well_typed_unary : Code → Ty → Ty → Bool
 well_typed_unary Convert t a = true
 well_typed_unary Negate t a = same_type a t
@@ -13,7 +14,8 @@ well_typed_unary Abs t a = same_type a t && not a.unsigned
 well_typed_unary Absu t a = t.unsigned && not a.unsigned && (a.width == t.width)
 well_typed_unary _ t a = false
 
--- two operands: T, T to T; a shift counts in any type; two of one type are compared, with a _Bool as the result
+-- two operands: T, T to T; a shift counts in any type; two of one type are compared, with a _Bool
+-- as the result
 abbrev pub well_typed_binary : Code → Ty → Ty → Ty → Bool
 well_typed_binary Plus t a b = same_type a t && same_type b t
 well_typed_binary Minus t a b = same_type a t && same_type b t

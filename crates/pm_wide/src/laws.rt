@@ -1,15 +1,15 @@
-//! What the operation table implies, for every type and word. The functions do nothing: their contracts are the
-//! laws.
-ghost use Rattle.std.specs.Prelude.{◌≡◌, ◌<◌, ◌≤◌, ◌^◌, IsTrue, true, false, ℕ, ℤ, pos, negsuc, neg_ℤ, ◌+ℤ◌, ◌-ℤ◌, ◌*ℤ◌, List, [], ◌∷◌, map, Some};
+//! What the operation table implies, for every type and word. The functions do nothing: their
+//! contracts are the laws.
+ghost use Rattle.std.specs.Prelude.{◌≡◌, ◌<◌, ◌≤◌, ◌^◌, IsTrue, false, not, ◌&&◌, ℕ, ℤ, pos, negsuc, neg_ℤ, ◌+ℤ◌, ◌-ℤ◌, ◌*ℤ◌, List, [], ◌∷◌, map, Some};
 ghost use Rattle.std.specs.Int.{int_div_euclid, int_min, int_max};
 ghost use Rattle.std.specs.Int.RustNames.{int_div, int_rem, unsigned_abs};
 ghost use Rattle.std.specs.List.{All};
 ghost use Rattle.pm_ops.specs.declared.code.Code.{Code};
 ghost use Rattle.pm_ops.specs.declared.code.Code.TheVariants.{Convert, TruncDiv, TruncMod, Absu, BitNot, Lshift, Rshift, Min, Max};
 ghost use Rattle.pm_wide.specs.Congruence.{Congruent};
-ghost use Rattle.pm_wide.specs.Types.{Ty, Word, IsType, IsWord, in_range, value, word};
+ghost use Rattle.pm_wide.specs.Types.{Ty, Word, IsType, IsWord, in_range, least, value, word};
 ghost use Rattle.pm_wide.specs.Typing.{well_typed_operation};
-ghost use Rattle.pm_wide.specs.Operations.{exact, operation_value};
+ghost use Rattle.pm_wide.specs.Operations.{divides, exact, int_same, least_by_minus_one, operation_value};
 
 /// A type has at least one bit and at most 128.
 pub fn types_have_bits()
@@ -32,7 +32,8 @@ pub fn words_are_congruence_classes()
     ensures one_value { (t : Ty) (a b : ℤ) → IsType t → IsTrue (in_range t a) → IsTrue (in_range t b) → Congruent t.width a b → a ≡ b }
 {}
 
-/// Congruence modulo a power of two is an equivalence that sums, differences, products and negatives keep.
+/// Congruence modulo a power of two is an equivalence that sums, differences, products and
+/// negatives keep.
 pub fn congruence_is_kept()
     ensures same { (m : ℕ) (a : ℤ) → Congruent m a a }
     ensures turned { (m : ℕ) (a b : ℤ) → Congruent m a b → Congruent m b a }
@@ -51,12 +52,23 @@ pub fn values_are_words()
         operation_value code t args ≡ Some r → (r.ty ≡ t) × IsWord r }
 {}
 
-/// Sums, differences, products, negatives and sizes: congruent to the exact result, and equal to it where the type has a
-/// sign, so that it then was in range.
+/// Sums, differences, products, negatives and sizes: congruent to the exact result, and equal to
+/// it where the type has a sign, so that it then was in range.
 pub fn exact_results()
     ensures congruent { (t : Ty) (z : ℤ) (r : Word) → exact t z ≡ Some r → Congruent t.width (value r) z }
     ensures equal { (t : Ty) (z : ℤ) (r : Word) → IsType t → t.unsigned ≡ false → exact t z ≡ Some r → IsTrue (in_range t z) × (value r ≡ z) }
     ensures defined { (t : Ty) (z : ℤ) → IsTrue (in_range t z) → exact t z ≡ Some (word t z) }
+{}
+
+/// Where a signed type has no result: the least value has no negative, no size and no quotient by
+/// -1. By 0 there is none in any type.
+pub fn missing_results()
+    ensures negative { (t : Ty) (x : ℤ) → IsType t → IsTrue (in_range t x) → t.unsigned ≡ false →
+        in_range t (neg_ℤ x) ≡ not (int_same x (least t)) }
+    ensures size { (t : Ty) (x : ℤ) → IsType t → IsTrue (in_range t x) → t.unsigned ≡ false →
+        in_range t (pos (unsigned_abs x)) ≡ not (int_same x (least t)) }
+    ensures quotient { (t : Ty) (x y : ℤ) → IsType t → IsTrue (in_range t x) → IsTrue (in_range t y) →
+        divides t x y ≡ (not (int_same y (pos 0)) && not (least_by_minus_one t x y)) }
 {}
 
 /// Quotients and what they leave are exact.
@@ -67,8 +79,8 @@ pub fn exact_quotients()
         operation_value TruncMod t (a ∷ b ∷ []) ≡ Some r → value r ≡ int_rem (value a) (value b) }
 {}
 
-/// A shift to the left is congruent to a product with a power of two, and one to the right is an exact quotient, rounded
-/// down.
+/// A shift to the left is congruent to a product with a power of two, and one to the right is an
+/// exact quotient, rounded down.
 pub fn shifts_are_powers()
     ensures left { (t : Ty) (a b r : Word) →
         operation_value Lshift t (a ∷ b ∷ []) ≡ Some r → Congruent t.width (value r) (value a *ℤ pos (2 ^ unsigned_abs (value b))) }
@@ -84,8 +96,8 @@ pub fn exact_choices()
         operation_value Max t (a ∷ b ∷ []) ≡ Some r → value r ≡ int_max (value a) (value b) }
 {}
 
-/// A conversion is congruent to its operand, and equal to it where that is in range; `absu` is exact; a complement is
-/// congruent to -1 less its operand.
+/// A conversion is congruent to its operand, and equal to it where that is in range; `absu` is
+/// exact; a complement is congruent to -1 less its operand.
 pub fn single_operands()
     ensures converted { (t : Ty) (a r : Word) → operation_value Convert t (a ∷ []) ≡ Some r → Congruent t.width (value r) (value a) }
     ensures kept { (t : Ty) (a r : Word) → IsType t → IsTrue (in_range t (value a)) →

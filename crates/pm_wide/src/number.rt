@@ -8,8 +8,8 @@ use crate::ty::IntType;
 use crate::wide::{Wide, fits, power_of_two};
 use std::marker::Model;
 
-/// A whole number as its sign and its size: the value of a word, or an exact result of less than 2 to the
-/// 128th in size. Contracts see the whole number.
+/// A whole number as its sign and its size: the value of a word, or an exact result of less than
+/// 2 to the 128th in size. Contracts see the whole number.
 #[derive(Drop)]
 pub struct Number {
     negative: bool,

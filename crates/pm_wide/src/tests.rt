@@ -1,5 +1,5 @@
-//! Values of the operation table from outside: worked by hand, and checked against whole numbers of another
-//! language.
+//! Values of the operation table from outside: worked by hand, and checked against whole numbers
+//! of another language.
 ghost use Rattle.std.specs.Prelude.{◌≡◌, ◌↔◌, IsTrue};
 
 use crate::{
@@ -60,7 +60,8 @@ fn ternary(
     op_value(code, ty, &[a, b, c])
 }
 
-/// The eleven types with their least and greatest values; that of `unsigned __int128` has the word of -1.
+/// The eleven types with their least and greatest values; that of `unsigned __int128` has the
+/// word of -1.
 fn ends() -> [(IntType, i128, i128); 11] {
     [
         (IntType::boolean(), 0, 1),
@@ -180,7 +181,8 @@ fn one_operand_at_the_ends(rt: HostRuntime) {
 
 #[test]
 fn comparisons_at_the_ends(rt: HostRuntime) {
-    // of the least and the greatest value, of the greatest and the least, and of the greatest with itself
+    // of the least and the greatest value, of the greatest and the least, and of the greatest
+    // with itself
     let rows = [
         (Code::Eq, 0, 0, 1),
         (Code::Ne, 1, 1, 0),

@@ -33,13 +33,11 @@ fn binary(code: Code, ty: IntType, a: IntType, b: IntType) -> bool
     ensures { result ≡ well_typed_binary code ty a b }
 {
     match code {
-        Code::Plus | Code::Minus | Code::Mult | Code::TruncDiv | Code::TruncMod => a == ty
-            && b == ty,
-        Code::BitAnd | Code::BitIor | Code::BitXor | Code::Min | Code::Max => a == ty && b == ty,
+        Code::Plus | Code::Minus | Code::Mult => a == ty && b == ty,
+        Code::TruncDiv | Code::TruncMod | Code::Min | Code::Max => a == ty && b == ty,
+        Code::BitAnd | Code::BitIor | Code::BitXor => a == ty && b == ty,
         Code::Lshift | Code::Rshift => a == ty,
-        Code::Eq | Code::Ne | Code::Lt | Code::Le | Code::Gt | Code::Ge => a == b
-            && ty == IntType::boolean(),
-        _ => false,
+        _ => code.is_comparison() && a == b && ty == IntType::boolean(),
     }
 }
 
