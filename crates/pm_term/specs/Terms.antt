@@ -17,8 +17,8 @@ with_value (Some word) None = None
 with_value (Some word) (Some words) = Some (word ∷ words)
 
 abbrev mutual
-  -- the value of a tree where each name has the word that `words` gives its version and type: none where any node has none,
-  -- also in the part of a `cond` that isn't chosen
+  -- the value of a tree where each name has the word that `words` gives its version and type: none
+  -- where any node has none, also in the part of a `cond` that isn't chosen
   pub term_value : (ℕ → Ty → Word) → Tree → Option Word
   term_value words (name version ty) = Some (words version ty)
   term_value words (constant word) = Some word

@@ -1,4 +1,5 @@
--- The plain tree of a term forgets nothing and misses nothing; so plain trees are stored as terms of the code.
+-- The plain tree of a term forgets nothing and misses nothing; so plain trees are stored as terms of
+-- the code.
 use Rattle.std.specs.Prelude.{◌≡◌, ℕ, List, [], ◌∷◌, map, refl}
 use Rattle.std.specs.Coded.{Coded, code_by}
 use Rattle.std.proofs.Common.{sym, ap, ◌∙◌, subst}

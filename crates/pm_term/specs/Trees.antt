@@ -1,12 +1,14 @@
--- Terms as plain trees: what every definition over terms goes by, with no pointer, row or list of lists in sight.
-use Rattle.std.specs.Prelude.{◌≡◌, ℕ, ◌+◌, List, [], ◌∷◌, ◌++◌, ⊤, IsTrue}
+-- Terms as plain trees: what every definition over terms goes by, with no pointer, row or list of
+-- lists in sight.
+use Rattle.std.specs.Prelude.{ℕ, ◌+◌, List, [], ◌∷◌, ◌++◌, ⊤, IsTrue}
 use Rattle.pm_ops.specs.declared.code.Code.{Code}
 use Rattle.pm_wide.specs.declared.operand.Operand.{Operand}
 use Rattle.pm_wide.specs.declared.operand.Operand.TheVariants.{Name, Const}
 use Rattle.pm_wide.specs.Types.{Ty, IsType, Word, IsWord}
 use Rattle.pm_wide.specs.Typing.{well_typed_operation}
 
--- a name by its version, with its type; a constant; an operation on trees, with the type of its result
+-- a name by its version, with its type; a constant; an operation on trees, with the type of its
+-- result
 mutual
   pub data Tree : Type 0 where
     name : ℕ → Ty → Tree
@@ -60,7 +62,8 @@ abbrev mutual
   operations_of (cons t ts) = operations t + operations_of ts
 
 abbrev mutual
-  -- the names of a tree from left to right, each as often as it stands there: a version at two types is two names
+  -- the names of a tree from left to right, each as often as it stands there: a version at two types
+  -- is two names
   pub names_in : Tree → List (ℕ × Ty)
   names_in (name version ty) = (version, ty) ∷ []
   names_in (constant word) = []

@@ -1,11 +1,11 @@
 ghost use Rattle.std.specs.Prelude.{◌≡◌, IfSome, IsSome};
-ghost use Rattle.std.specs.Option.{option_copied};
 ghost use Rattle.pm_term.specs.Environments.{word_of_name, assigned};
 
 use pm_items::Items;
 use pm_wide::{IntType, Wide};
 
-/// Versions with their words. A name is sought by its version and its type, and the first such pair counts.
+/// Versions with their words. A name is sought by its version and its type, and the first such pair
+/// counts.
 #[derive(Debug, Drop)]
 pub struct Env {
     pub words: Items<(u32, Wide)>,

@@ -1,14 +1,17 @@
-//! What the definitions imply, for every term. The functions do nothing: their contracts are the laws.
+//! What the definitions imply, for every term. The functions do nothing: their contracts are the
+//! laws.
 ghost use Rattle.std.specs.Prelude.{◌≡◌, ℕ, List, All, IsSome, Some};
 ghost use Rattle.pm_wide.specs.Types.{Ty, Word, IsType, IsWord};
 ghost use Rattle.pm_term.specs.Environments.{word_of_name, HasNames};
 ghost use Rattle.pm_term.specs.Terms.{term_value};
 ghost use Rattle.pm_term.specs.Trees.{Tree, type_of, names_in, IsWellTyped};
 
-/// The value of a well-typed term is a word of its type, where each name has a word of its own type.
+/// The value of a well-typed term is a word of its type, where each name has a word of its own
+/// type.
 pub fn values_are_words()
     ensures { (words : ℕ → Ty → Word) (t : Tree) (r : Word) →
-        ((version : ℕ) (ty : Ty) → IsType ty → ((words version ty).ty ≡ ty) × IsWord (words version ty)) →
+        ((version : ℕ) (ty : Ty) → IsType ty →
+        ((words version ty).ty ≡ ty) × IsWord (words version ty)) →
         IsWellTyped t → term_value words t ≡ Some r → (r.ty ≡ type_of t) × IsWord r }
 {}
 

@@ -1,7 +1,7 @@
 //! Typed terms: operations on operations, names and constants, with their values.
 //!
-//! A `Term` is plain data. A `Typed` is a well-typed one, which contracts see as a plain tree (`specs/Trees`); its
-//! value is `specs/Terms`.
+//! A `Term` is plain data. A `Typed` is a well-typed one, which contracts see as a plain tree
+//! (`specs/Trees`); its value is `specs/Terms`.
 #![tactic(auto)]
 
 mod count;

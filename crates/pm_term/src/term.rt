@@ -6,7 +6,8 @@ use pm_ops::{Code, OutOfMemory};
 use pm_wide::{IntType, Wide};
 use std::alloc::Global;
 
-/// A name by its version, with its type; a constant; or an operation on terms, with the type of its result.
+/// A name by its version, with its type; a constant; or an operation on terms, with the type of its
+/// result.
 #[derive(Debug, PartialEq, Eq, Drop)]
 pub enum Term {
     Name(u32, IntType),
@@ -30,7 +31,7 @@ impl Term {
         }
     }
 
-    /// Whether two terms are one and the same: equal codes, types, versions and words at each place.
+    /// Whether two terms are one and the same: equal codes, types, versions and words everywhere.
     #[cycle(same)]
     pub fn same(&self, other: &Term) -> bool
         ensures { IsTrue result ↔ (self.now ≡ other.now) }

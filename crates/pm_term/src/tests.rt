@@ -55,8 +55,8 @@ fn of_names(alloc: Global, code: Code) -> Result<Typed, BuildFault> {
     )
 }
 
-/// Version 1 is 7 as an `int` and 250 as an `unsigned char`, 2 is -3, 3 is 1 as a `_Bool`, and 4 the least `long`. The
-/// second pair of version 1 as an `int` never counts.
+/// Version 1 is 7 as an `int` and 250 as an `unsigned char`, 2 is -3, 3 is 1 as a `_Bool`, and 4 the
+/// least `long`. The second pair of version 1 as an `int` never counts.
 fn words(alloc: Global) -> Result<Env, AllocError> {
     let words = [
         (1, word(250, IntType::unsigned_char())),

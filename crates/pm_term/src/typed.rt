@@ -63,8 +63,8 @@ impl Typed {
         }
     }
 
-    /// The operation on these terms, with a result of that type, or a refusal where it isn't well typed. After a
-    /// refusal the terms are dropped.
+    /// The operation on these terms, with a result of that type, or a refusal where it isn't well
+    /// typed. After a refusal the terms are dropped.
     pub fn build(
         alloc: Global,
         code: Code,
@@ -72,7 +72,8 @@ impl Typed {
         args: Items<Typed>,
     ) -> Result<Typed, BuildFault>
         ensures ok { IfOk result (λ t. t ≡ node code ty (trees args)) }
-        ensures ill_typed { IsErrOf result BuildFault.IllTyped ↔ (well_typed_operation code ty (map type_of args) ≡ false) }
+        ensures ill_typed { IsErrOf result BuildFault.IllTyped ↔
+            (well_typed_operation code ty (map type_of args) ≡ false) }
     {
         if !are_operands(code, ty, args.as_slice()) {
             return Err(BuildFault::IllTyped);
@@ -111,7 +112,7 @@ impl Typed {
         })
     }
 
-    /// Whether two terms are one and the same: equal codes, types, versions and words at each place.
+    /// Whether two terms are one and the same: equal codes, types, versions and words everywhere.
     #[tactic(auto, using(crate::specs::TreeCodes::tree_of_injective))]
     pub fn same(&self, other: &Typed) -> bool
         ensures { IsTrue result ↔ (self.now ≡ other.now) }
@@ -119,8 +120,8 @@ impl Typed {
         self.term.same(&other.term)
     }
 
-    /// How many operations it has, conversions too. 2 to the 64 less 1 stands for all that are more, which no memory
-    /// holds.
+    /// How many operations it has, conversions too. 2 to the 64 less 1 stands for all that are
+    /// more, which no memory holds. Takes no memory.
     pub fn operators(&self) -> usize
         ensures { result ≡ min (operations self.now) (2 ^ 64 - 1) }
     {
@@ -134,8 +135,8 @@ impl Typed {
         value::has_names(env, &self.term)
     }
 
-    /// Its value where the environment gives the words of its names, or `Undefined` where any of its operations has
-    /// none, also in the part of a `cond` that isn't chosen. Takes no memory.
+    /// Its value where the environment gives the words of its names, or `Undefined` where any of
+    /// its operations has none, also in the part of a `cond` that isn't chosen. Takes no memory.
     pub fn value(&self, env: &Env) -> Result<Wide, Undefined>
         requires { HasNames env.now.words self.now }
         ensures value { result ≡ ok_or (term_value (assigned env.now.words) self.now) (record {}) }

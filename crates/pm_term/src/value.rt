@@ -39,7 +39,8 @@ fn have_names(env: &Env, terms: &[Term]) -> bool
 pub(crate) fn value_of(term: &Term, env: &Env) -> Result<Wide, Undefined>
     requires well_typed { IsWellTyped (tree_of term.now) }
     requires has_names { HasNames env.now.words (tree_of term.now) }
-    ensures value { result ≡ ok_or (term_value (assigned env.now.words) (tree_of term.now)) (record {}) }
+    ensures value { result ≡
+        ok_or (term_value (assigned env.now.words) (tree_of term.now)) (record {}) }
     ensures typed { IfOk result (λ w. w.ty ≡ type_of (tree_of term.now)) }
 {
     match term {
@@ -49,13 +50,14 @@ pub(crate) fn value_of(term: &Term, env: &Env) -> Result<Wide, Undefined>
     }
 }
 
-/// The value of an operation on these terms.
+/// The value of an operation on these terms; none has fewer than one or more than three.
 #[cycle(value)]
 fn value_on(code: Code, ty: IntType, args: &[Term], env: &Env) -> Result<Wide, Undefined>
     requires operation { IsTrue (well_typed_operation code ty (types_of (trees_of args.now))) }
     requires well_typed { AreWellTyped (trees_of args.now) }
     requires has_names { HaveNames env.now.words (trees_of args.now) }
-    ensures value { result ≡ ok_or (operation_on code ty (term_values (assigned env.now.words) (trees_of args.now))) (record {}) }
+    ensures value { result ≡
+        ok_or (operation_on code ty (term_values (assigned env.now.words) (trees_of args.now))) (record {}) }
     ensures typed { IfOk result (λ w. w.ty ≡ ty) }
 {
     match args {
