@@ -1,1 +1,3 @@
+pub mod FirstForm
 pub mod Matching
+pub mod Reading

@@ -1,5 +1,7 @@
 pub mod Functions
 pub mod Identifiers
+pub mod Numbers
+pub mod Printing
 pub mod Removal
 pub mod Rewriting
 pub mod Subjects

@@ -1,0 +1,4 @@
+pub mod AnswerLemmas
+pub mod GivenLemmas
+pub mod NameLemmas
+pub mod RowLemmas

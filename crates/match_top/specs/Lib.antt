@@ -1,2 +1,7 @@
+pub mod Answers
+pub mod Given
+pub mod Report
 pub mod Settings
+pub mod Stages
 pub mod Words
+pub mod Writing

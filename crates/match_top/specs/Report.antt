@@ -1,8 +1,9 @@
 -- The lines of the report.
-use Rattle.std.specs.Prelude.{ℕ, ◌+◌, ◌-◌, Bool, true, false, if◌then◌else◌, List, [], ◌∷◌, ◌++◌, Option, Some, None, codes, decimal}
+use Rattle.std.specs.Prelude.{ℕ, ◌+◌, ◌-◌, Bool, true, false, if◌then◌else◌, List, [], ◌∷◌, ◌++◌, Option, Some, None, codes, decimal, slice_get}
 use Rattle.std.specs.List.{flat_map}
 use Rattle.std.specs.Option.{option_map_or}
-use Rattle.std.specs.Prelude.{slice_get}
+
+use Rattle.gim_ast.specs.Printing.{name_text}
 use Rattle.gim_ast.specs.Subjects.{Site, AtStmt, AtCond}
 use Rattle.gim_ast.specs.Rewriting.{What, IsCopy, IsSwap, IsFold, IsRow, Firing, Rewritten}
 use Rattle.first_patterns.specs.declared.row.Row.{Row}
@@ -14,12 +15,19 @@ line text = text ++ 10 ∷ []
 
 -- the subject: a name as it is printed, or the block whose condition it is
 abbrev pub site_text : Site → List ℕ → List ℕ
-site_text (AtStmt x) base = base ++ 95 ∷ decimal x
+site_text (AtStmt x) base = name_text base x
 site_text (AtCond n) base = codes "__BB" ++ decimal n
 
--- where the pattern of a row begins in its file, and the row's number
+-- where the pattern of a row begins in its file
+abbrev pub place_of_row : List ℕ → Row → List ℕ
+place_of_row source row = decimal (line_of source row.at) ++ codes ":" ++ decimal (column_of source row.at)
+
+-- rows are numbered from 1
+abbrev pub place_text : List ℕ → List Row → ℕ → List ℕ
+place_text source rows n = option_map_or (place_of_row source) (slice_get rows (n - 1)) []
+
 abbrev pub row_text : List ℕ → List Row → ℕ → List ℕ
-row_text source rows n = option_map_or (λ (row : Row). decimal (line_of source row.at) ++ codes ":" ++ decimal (column_of source row.at)) (slice_get rows (n - 1)) [] ++ codes "#" ++ decimal n
+row_text source rows n = place_text source rows n ++ codes "#" ++ decimal n
 
 -- why the step was made; the `-` stands where checked mode names a method
 abbrev pub what_text : List ℕ → List Row → What → List ℕ

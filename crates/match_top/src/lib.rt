@@ -1,6 +1,13 @@
 //! The one call that does all that the program does, from the words of the command line to the bytes that it writes.
 #![tactic(auto)]
 
+mod answer;
+mod program;
+mod report;
+mod simplify;
+mod stages;
 mod words;
+mod writing;
 
+pub use program::run;
 pub use words::{Command, settings};

@@ -6,11 +6,13 @@ use std::alloc::Global;
 
 use pm_ops::OutOfMemory;
 
-/// What the words of the command line ask for.
+/// What the words of the command line ask for: `simplify P G`, the only command as yet.
 #[derive(Debug, Drop)]
-pub enum Command {
-    /// `simplify P G`: the pattern file and the GIMPLE file.
-    Simplify(String, String),
+pub struct Command {
+    /// The name of the pattern file.
+    pub patterns: String,
+    /// The name of the GIMPLE file.
+    pub functions: String,
 }
 
 /// The command that the words spell, or nothing where they spell none.
@@ -25,7 +27,10 @@ pub fn settings(alloc: Global, words: &[String]) -> Result<Option<Command>, OutO
     }
     let patterns = String::from_str(alloc, patterns.as_str())?;
     let functions = String::from_str(alloc, functions.as_str())?;
-    Ok(Some(Command::Simplify(patterns, functions)))
+    Ok(Some(Command {
+        patterns,
+        functions,
+    }))
 }
 
 /// Whether a word may name a file: it isn't empty, and doesn't begin as an option does.

@@ -55,6 +55,7 @@ pub fn read_all<I: Inputs>(
     limit: usize,
 ) -> Result<Vec<u8>, ReadFault>
     ensures told { IfSome (I.holds inputs.old) (λ held. ReadsWhole (held name.now) limit (I.left inputs.new) result) }
+    ensures within { IfOk result (λ bytes. length bytes.items ≤ limit) }
     ensures begun { LeavesBegun (I.begun inputs.new) result }
     ensures holds { I.holds inputs.new ≡ I.holds inputs.old }
 

@@ -1,0 +1,12 @@
+pub mod Cutting
+pub mod Loops
+pub mod Names
+pub mod Merging
+pub mod Distinct
+pub mod Sequence
+pub mod Texts
+pub mod Tables
+pub mod Words
+pub mod Lines
+pub mod Whole
+pub mod Judging

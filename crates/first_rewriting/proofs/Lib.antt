@@ -1,0 +1,10 @@
+pub mod Keeping
+pub mod Lists
+pub mod Stepping
+pub mod Typings
+pub mod Unused
+pub mod Uses
+pub mod ValueTypes
+pub mod Choosing
+pub mod Ends
+pub mod Folding

@@ -1,0 +1,21 @@
+//! The rewriting of functions by rows of captures.
+//!
+//! What is unused goes first. Then, at the first subject that has a choice, a step carries it out, again and again, until no
+//! subject has one or the budget is spent. Each step begins again at the first subject and tries the rows one after another.
+#![tactic(auto)]
+
+mod choice;
+mod firing;
+pub mod laws;
+mod lookup;
+mod matching;
+mod removal;
+mod rewriting;
+mod step;
+mod substitution;
+
+pub use firing::{Firing, Site, What};
+pub use rewriting::{Simplified, simplify};
+
+#[cfg(test)]
+mod tests;

@@ -1,0 +1,10 @@
+pub mod Lists
+pub mod Basics
+pub mod Parts
+pub mod Sequence
+pub mod Machine
+pub mod Repetition
+pub mod Chains
+pub mod Loops
+pub mod Recursion
+pub mod WholeInput

@@ -1,0 +1,4 @@
+pub mod Grammar
+pub mod TypeReaders
+pub mod OperandReaders
+pub mod ExpressionReaders

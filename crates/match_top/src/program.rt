@@ -1,0 +1,81 @@
+//! The top call.
+ghost use Rattle.std.specs.Prelude.{◌≡◌, ◌≢◌, ◌⊎◌, ◌≤◌, ℕ, List, Some, None, Option, map, string_bytes, IfSome};
+ghost use Rattle.pm_io.specs.Causes.{Rose};
+ghost use Rattle.match_top.specs.Answers as answers;
+ghost use Rattle.match_top.specs.Answers.{Given, IsAnswer};
+ghost use Rattle.match_top.specs.Given.{HasReason, CommandAgrees};
+ghost use Rattle.match_top.specs.Words.{command_of};
+ghost use Rattle.match_top.specs.Settings.{spelled};
+ghost use Rattle.match_top.specs.Stages.{answered};
+ghost use Rattle.match_top.specs.Writing.{Writes};
+
+use std::alloc::Global;
+
+use pm_io::{Inputs, Sink};
+
+use crate::answer::{Answer, Stop, refused, settle};
+use crate::simplify::simplify;
+use crate::words::{Command, settings};
+use crate::writing::write;
+
+/// Does all that the program does: reads what the words ask for, writes the answer to `out` and then to `report`, and answers the
+/// status.
+pub fn run<I: Inputs, O: Sink, E: Sink>(
+    alloc: Global,
+    words: &[String],
+    inputs: &mut I,
+    out: &mut O,
+    report: &mut E,
+) -> u8
+    // There is an answer to the words and to what the files gave, and it was written.
+    ensures answer { (p : Given) × (g : Given) × (a : answers.Answer)
+        × IsAnswer (command_of (map string_bytes words.now)) p g a
+        × Writes a (record { old = O.taken out.old; new = O.taken out.new; faults_old = O.faults out.old; faults_new = O.faults out.new })
+            (record { old = E.taken report.old; new = E.taken report.new; faults_old = E.faults report.old; faults_new = E.faults report.new }) result
+        × HasReason (I.faults inputs.old) (I.faults inputs.new) p
+        × HasReason (I.faults inputs.old) (I.faults inputs.new) g
+        × IfSome (I.holds inputs.old) (λ held. CommandAgrees held (I.left inputs.new) (command_of (map string_bytes words.now)) p g) }
+
+    // Words without a command leave the inputs as they were.
+    ensures untouched { command_of (map string_bytes words.now) ≡ None → inputs.new ≡ inputs.old }
+
+    // Counts of faults never fall.
+    ensures inputs_later { I.faults inputs.old ≤ I.faults inputs.new }
+    ensures out_later { O.faults out.old ≤ O.faults out.new }
+    ensures report_later { E.faults report.old ≤ E.faults report.new }
+{
+    let answer = settle(alloc, answer(alloc, words, inputs));
+    write(&answer, out, report)
+}
+
+/// The answer to the words over these inputs.
+fn answer<I: Inputs>(alloc: Global, words: &[String], inputs: &mut I) -> Result<Answer, Stop>
+    ensures answer { (p : Given) × (g : Given)
+        × IsAnswer (command_of (map string_bytes words.now)) p g (answered result)
+        × HasReason (I.faults inputs.old) (I.faults inputs.new) p
+        × HasReason (I.faults inputs.old) (I.faults inputs.new) g
+        × IfSome (I.holds inputs.old) (λ held. CommandAgrees held (I.left inputs.new) (command_of (map string_bytes words.now)) p g) }
+    ensures untouched { command_of (map string_bytes words.now) ≡ None → inputs.new ≡ inputs.old }
+    ensures later { I.faults inputs.old ≤ I.faults inputs.new }
+{
+    match settings(alloc, words) {
+        Ok(command) => perform(alloc, command, inputs),
+        Err(_) => Err(Stop::Memory),
+    }
+}
+
+/// Does what is asked, or refuses words that ask for nothing.
+fn perform<I: Inputs>(alloc: Global, command: Option<Command>, inputs: &mut I) -> Result<Answer, Stop>
+    ensures answer { (p : Given) × (g : Given)
+        × IsAnswer (spelled command) p g (answered result)
+        × HasReason (I.faults inputs.old) (I.faults inputs.new) p
+        × HasReason (I.faults inputs.old) (I.faults inputs.new) g
+        × IfSome (I.holds inputs.old) (λ held. CommandAgrees held (I.left inputs.new) (spelled command) p g) }
+    ensures untouched { spelled command ≡ None → inputs.new ≡ inputs.old }
+    ensures later { I.faults inputs.old ≤ I.faults inputs.new }
+{
+    match command {
+        Some(command) => simplify(alloc, inputs, &command.patterns, &command.functions),
+        None => Err(refused(alloc, 2, "match_cli: bad command line", "")),
+    }
+}

@@ -1,0 +1,26 @@
+use super::*;
+use std::test::Fail;
+
+#[test]
+fn places(rt: HostRuntime) -> Result<(), Fail> {
+    let text = b"ab\n\n\tc\r\nd".as_slice();
+    let expected = [
+        (0, 1, 1),
+        (1, 1, 2),
+        (2, 1, 3),
+        (3, 2, 1),
+        (4, 3, 1),
+        (5, 3, 2),
+        (6, 3, 3),
+        (7, 3, 4),
+        (8, 4, 1),
+        (9, 4, 2),
+    ];
+    assert!(rt; text.len() == 9);
+    for (at, line, column) in expected {
+        assert!(rt; at <= 9);
+        assert_eq!(rt; line_column(text, at), (line, column), "at {at}");
+    }
+    assert_eq!(rt; line_column(b"", 0), (1, 1));
+    Ok(())
+}
