@@ -1,0 +1,5 @@
+pub mod Environments
+pub mod Terms
+pub mod TermTrees
+pub mod TreeCodes
+pub mod Trees
