@@ -1,5 +1,7 @@
 pub mod Functions
 pub mod Identifiers
+pub mod Paths
+pub mod Readable
 pub mod Removal
 pub mod Rewriting
 pub mod Subjects
