@@ -1,1 +1,3 @@
 pub mod SupportLemmas
+pub mod DistinctLemmas
+pub mod ReadableLemmas
