@@ -54,7 +54,7 @@ distinct_right (x ∷ xs) ys h = distinct_right xs ys ((and_parts _ _ h).1)
 
 module _ {B : Type 0} (assigns : B → List ℕ) where
   -- what an element assigns stands in all that is assigned
-  assigned_among : (bs : List B) (b : B) (x : ℕ) (front left : List ℕ) → IsOneOf b bs → assigns b ≡ front ++ x ∷ left →
+  pub assigned_among : (bs : List B) (b : B) (x : ℕ) (front left : List ℕ) → IsOneOf b bs → assigns b ≡ front ++ x ∷ left →
       (us : List ℕ) × (vs : List ℕ) × (flat_map assigns bs ≡ us ++ x ∷ vs)
   assigned_among [] b x front left one is = absurd one
   assigned_among (c ∷ cs) b x front left one is = ⊎_elim
