@@ -1,3 +1,4 @@
 pub mod SupportLemmas
 pub mod DistinctLemmas
 pub mod ReadableLemmas
+pub mod FlowLemmas
