@@ -60,7 +60,7 @@ module _ {B : Type 0} (assigns : B → List ℕ) where
   assigned_among (c ∷ cs) b x front left one is = ⊎_elim
       (λ (here : c ≡ b). (front, left ++ flat_map assigns cs, ap (λ l. l ++ flat_map assigns cs) (ap assigns here ∙ is) ∙ append_assoc front (x ∷ left) (flat_map assigns cs)))
       (λ later. let rest = assigned_among cs b x front left later is in
-        (assigns c ++ rest.0, rest.1, ap (λ l. assigns c ++ l) rest.2 ∙ sym (append_assoc (assigns c) rest.0 (x ∷ rest.1))))
+      (assigns c ++ rest.0, rest.1, ap (λ l. assigns c ++ l) rest.2 ∙ sym (append_assoc (assigns c) rest.0 (x ∷ rest.1))))
       one
 
   -- two places where a name is assigned are one
@@ -69,20 +69,21 @@ module _ {B : Type 0} (assigns : B → List ℕ) where
   one_place number [] b c x p left q rest h b_in b_is c_in c_is = absurd b_in
   one_place number (d ∷ ds) b c x p left q rest h b_in b_is c_in c_is = ⊎_elim
       (λ (b_here : d ≡ b). ⊎_elim
-        (λ (c_here : d ≡ c). (ap number (sym b_here ∙ c_here), same_rest b_here c_here))
-        (λ c_later. absurd (apart _ _ (ap assigns b_here ∙ b_is) (assigned_among ds c x q rest c_later c_is)))
-        c_in)
+      (λ (c_here : d ≡ c). (ap number (sym b_here ∙ c_here), same_rest b_here c_here))
+      (λ c_later. absurd (apart _ _ (ap assigns b_here ∙ b_is) (assigned_among ds c x q rest c_later c_is)))
+      c_in)
       (λ b_later. ⊎_elim
-        (λ (c_here : d ≡ c). absurd (apart _ _ (ap assigns c_here ∙ c_is) (assigned_among ds b x p left b_later b_is)))
-        (λ c_later. one_place number ds b c x p left q rest (distinct_right (assigns d) (flat_map assigns ds) h) b_later b_is c_later c_is)
-        c_in)
+      (λ (c_here : d ≡ c). absurd (apart _ _ (ap assigns c_here ∙ c_is) (assigned_among ds b x p left b_later b_is)))
+      (λ c_later. one_place number ds b c x p left q rest (distinct_right (assigns d) (flat_map assigns ds) h) b_later b_is c_later c_is)
+      c_in)
       b_in
     where
-    apart : (us ws : List ℕ) → assigns d ≡ us ++ x ∷ ws → ((vs : List ℕ) × (zs : List ℕ) × (flat_map assigns ds ≡ vs ++ x ∷ zs)) → ⊥
-    apart us ws is found = not_twice x us ws found.0 found.1
-        (subst (λ l. all_distinct eqb l ≡ true) (ap (λ l. l ++ flat_map assigns ds) is ∙ ap (λ l. (us ++ x ∷ ws) ++ l) found.2) h)
-    same_rest : d ≡ b → d ≡ c → left ≡ rest
-    same_rest b_here c_here =
-        let b_as = ap assigns b_here ∙ b_is in
-        one_rest x p left q rest (subst (λ l. all_distinct eqb l ≡ true) b_as (distinct_left (assigns d) (flat_map assigns ds) h))
-            (sym b_as ∙ (ap assigns c_here ∙ c_is))
+      apart : (us ws : List ℕ) → assigns d ≡ us ++ x ∷ ws → ((vs : List ℕ) × (zs : List ℕ) × (flat_map assigns ds ≡ vs ++ x ∷ zs)) → ⊥
+      apart us ws is found = not_twice x us ws found.0 found.1
+          (subst (λ l. all_distinct eqb l ≡ true) (ap (λ l. l ++ flat_map assigns ds) is ∙ ap (λ l. (us ++ x ∷ ws) ++ l) found.2) h)
+
+      same_rest : d ≡ b → d ≡ c → left ≡ rest
+      same_rest b_here c_here =
+          let b_as = ap assigns b_here ∙ b_is in
+          one_rest x p left q rest (subst (λ l. all_distinct eqb l ≡ true) b_as (distinct_left (assigns d) (flat_map assigns ds) h))
+          (sym b_as ∙ (ap assigns c_here ∙ c_is))

@@ -36,7 +36,7 @@ pub put_in_flow : (x : ℕ) (by : Operand) (f : Function) → flow_of (put_in_al
 unfolding put_in_all
 put_in_flow x by f = unseen stretch_of (put_in_block x by) (λ block. same_stretch block.number _ _ _ _
     (ap (λ l. l ++ map stmt_name (map (put_in_stmt x by) block.stmts)) (unseen phi_name (put_in_phi x by) (λ phi. refl) block.phis)
-      ∙ ap (λ l. map phi_name block.phis ++ l) (unseen stmt_name (put_in_stmt x by) (λ stmt. refl) block.stmts))
+    ∙ ap (λ l. map phi_name block.phis ++ l) (unseen stmt_name (put_in_stmt x by) (λ stmt. refl) block.stmts))
     (put_targets x by block.end)) f.blocks
 
 rhs_name : (x : ℕ) (rhs : Rhs) (stmt : Stmt) → stmt_name (with_rhs_in_stmt x rhs stmt) ≡ stmt_name stmt
@@ -72,7 +72,7 @@ one_first P (w ∷ xs) ys (z ∷ us) vs x u before not_x prior not_u e = one_fir
 pub first_is_one : (f : Function) (n k x m j y : ℕ) → IsFirstUnreadable f n k x → IsFirstUnreadable f m j y → (n ≡ m) × (k ≡ j) × (x ≡ y)
 first_is_one f n k x m j y a b =
     let same = one_first (IsReadableUse f) a.before a.after b.before b.after a.first b.first a.readable_before a.unreadable b.readable_before b.unreadable
-        (sym a.in_order ∙ b.in_order) in (
+    (sym a.in_order ∙ b.in_order) in (
       sym a.same_block ∙ (ap (λ (u : Use). u.block) same ∙ b.same_block),
       sym a.same_item ∙ (ap (λ (u : Use). u.item) same ∙ b.same_item),
       sym a.same_name ∙ (ap (λ (u : Use). u.name) same ∙ b.same_name),

@@ -64,32 +64,32 @@ stands_in_stmts P n k w y (s ∷ stmts) stmt h reads_it all =
     let later = all_right P (uses_at n k n (map stmt_name (s ∷ stmts)) (operands_of_stmt s)) (uses_in_stmts n (k + 1) stmts) all in
     by_test (eqb s.name w) refl here (λ found. stands_in_stmts P n (k + 1) w y stmts stmt found reads_it later) h
   where
-  by_test : (b : Bool) → eqb s.name w ≡ b → AllByRecursion P (uses_at n k n (map stmt_name (s ∷ stmts)) (operands_of_stmt s)) →
-      (first_where (λ (t : Stmt). eqb t.name w) stmts ≡ Some stmt → Stands P w y n (map stmt_name stmts)) →
-      cond b (Some s) (first_where (λ (t : Stmt). eqb t.name w) stmts) ≡ Some stmt → Stands P w y n (map stmt_name (s ∷ stmts))
-  by_test true is here rest found =
-      let same = same_Some s stmt found in
-      let name = eqb-true s.name w is in
-      record {
-        front = [];
-        left = map stmt_name stmts;
-        is = ap (λ z. z ∷ map stmt_name stmts) name;
-        block = n;
-        item = k;
-        known = subst (λ z. P (record { block = n; item = k; name = y; at = n; left = z ∷ map stmt_name stmts })) name
-            (all_at P (λ x. record { block = n; item = k; name = x; at = n; left = map stmt_name (s ∷ stmts) }) y (names_among (operands_of_stmt s))
+    by_test : (b : Bool) → eqb s.name w ≡ b → AllByRecursion P (uses_at n k n (map stmt_name (s ∷ stmts)) (operands_of_stmt s)) →
+        (first_where (λ (t : Stmt). eqb t.name w) stmts ≡ Some stmt → Stands P w y n (map stmt_name stmts)) →
+        cond b (Some s) (first_where (λ (t : Stmt). eqb t.name w) stmts) ≡ Some stmt → Stands P w y n (map stmt_name (s ∷ stmts))
+    by_test true is here rest found =
+        let same = same_Some s stmt found in
+        let name = eqb-true s.name w is in
+        record {
+          front = [];
+          left = map stmt_name stmts;
+          is = ap (λ z. z ∷ map stmt_name stmts) name;
+          block = n;
+          item = k;
+          known = subst (λ z. P (record { block = n; item = k; name = y; at = n; left = z ∷ map stmt_name stmts })) name
+              (all_at P (λ x. record { block = n; item = k; name = x; at = n; left = map stmt_name (s ∷ stmts) }) y (names_among (operands_of_stmt s))
               (subst (λ (t : Stmt). IsTrue (is_among y (names_among (operands_of_stmt t)))) (sym same) reads_it) here);
-      }
-  by_test false is here rest found =
-      let r = rest found in
-      record {
-        front = s.name ∷ r.front;
-        left = r.left;
-        is = ap (λ l. s.name ∷ l) r.is;
-        block = r.block;
-        item = r.item;
-        known = r.known;
-      }
+        }
+    by_test false is here rest found =
+        let r = rest found in
+        record {
+          front = s.name ∷ r.front;
+          left = r.left;
+          is = ap (λ l. s.name ∷ l) r.is;
+          block = r.block;
+          item = r.item;
+          known = r.known;
+        }
 
 stands_in_block : (P : Use → Type 0) (w y : ℕ) (block : Block) (stmt : Stmt) → first_where (λ (s : Stmt). eqb s.name w) block.stmts ≡ Some stmt →
     IsTrue (is_among y (names_among (operands_of_stmt stmt))) → AllByRecursion P (uses_in_block block) → Stands P w y block.number (assigned_in block)
@@ -124,11 +124,11 @@ stands_in_blocks P w y (b ∷ blocks) stmt h reads_it all = ⊎_elim
       there = stands_in_block P w y b stmt here reads_it (all_left P (uses_in_block b) (flat_map uses_in_block blocks) all);
     })
     (λ later. let r = stands_in_blocks P w y blocks stmt later reads_it (all_right P (uses_in_block b) (flat_map uses_in_block blocks) all) in
-      record {
-        home = r.home;
-        one = inr r.one;
-        there = r.there;
-      })
+    record {
+      home = r.home;
+      one = inr r.one;
+      there = r.there;
+    })
     (first_in (λ (s : Stmt). eqb s.name w) b.stmts (flat_map (λ (c : Block). c.stmts) blocks) stmt h)
 
 -- a name that the statement of w reads stands in a use
@@ -136,10 +136,10 @@ pub reader_stands : (f : Function) (P : Use → Type 0) (w y : ℕ) → IsTrue (
 unfolding read_for right_of
 reader_stands f P w y reads_it all = by_found (first_where (λ (s : Stmt). eqb s.name w) (stmts_of f)) refl reads_it
   where
-  by_found : (o : Option Stmt) → first_where (λ (s : Stmt). eqb s.name w) (stmts_of f) ≡ o →
-      IsTrue (is_among y (option_map_or (λ (rhs : Rhs). names_among (operands_of_rhs rhs)) (option_map (λ (s : Stmt). s.rhs) o) [])) → StandsIn P w y f.blocks
-  by_found None is h = absurd (both_ways false refl h)
-  by_found (Some stmt) is h = stands_in_blocks P w y f.blocks stmt is h all
+    by_found : (o : Option Stmt) → first_where (λ (s : Stmt). eqb s.name w) (stmts_of f) ≡ o →
+        IsTrue (is_among y (option_map_or (λ (rhs : Rhs). names_among (operands_of_rhs rhs)) (option_map (λ (s : Stmt). s.rhs) o) [])) → StandsIn P w y f.blocks
+    by_found None is h = absurd (both_ways false refl h)
+    by_found (Some stmt) is h = stands_in_blocks P w y f.blocks stmt is h all
 
 -- ---- where a path leads
 
@@ -156,10 +156,10 @@ stretch_is : (p : Stretch → Bool) (blocks : List Block) (s : Stretch) → firs
 stretch_is p [] s h = absurd (none-some s h)
 stretch_is p (c ∷ blocks) s h = by_test (p (stretch_of c)) (stretch_is p blocks s) h
   where
-  by_test : (b : Bool) → (first_where p (map stretch_of blocks) ≡ Some s → (d : Block) × IsOneOf d blocks × (stretch_of d ≡ s)) →
-      cond b (Some (stretch_of c)) (first_where p (map stretch_of blocks)) ≡ Some s → (d : Block) × IsOneOf d (c ∷ blocks) × (stretch_of d ≡ s)
-  by_test true rest e = (c, inl refl, same_Some (stretch_of c) s e)
-  by_test false rest e = let r = rest e in (r.0, inr r.1, r.2)
+    by_test : (b : Bool) → (first_where p (map stretch_of blocks) ≡ Some s → (d : Block) × IsOneOf d blocks × (stretch_of d ≡ s)) →
+        cond b (Some (stretch_of c)) (first_where p (map stretch_of blocks)) ≡ Some s → (d : Block) × IsOneOf d (c ∷ blocks) × (stretch_of d ≡ s)
+    by_test true rest e = (c, inl refl, same_Some (stretch_of c) s e)
+    by_test false rest e = let r = rest e in (r.0, inr r.1, r.2)
 
 entry_is : (blocks : List Block) (s : Stretch) → entry_of (map stretch_of blocks) ≡ Some s → (b : Block) × IsOneOf b blocks × (stretch_of b ≡ s)
 entry_is [] s h = absurd (none-some s h)
@@ -198,9 +198,9 @@ read_fresh f valid n x y left past path reads_it =
     let stands = reader_stands f (IsReadableUse f) x y reads_it valid.readable in
     let leads = path_leads f.blocks n (x ∷ left) past path in
     let place = one_place assigned_in (λ (b : Block). b.number) f.blocks stands.home leads.home x stands.there.front stands.there.left leads.front left (all_assigned_distinct f valid.well_formed.names)
-        stands.one stands.there.is leads.one leads.is in
+    stands.one stands.there.is leads.one leads.is in
     stands.there.known.fresh past (subst (λ m. Path (flow_of f) m (x ∷ stands.there.left) past) (sym (place.0 ∙ leads.number))
-        (subst (λ l. Path (flow_of f) n (x ∷ l) past) (sym place.1) path))
+    (subst (λ l. Path (flow_of f) n (x ∷ l) past) (sym place.1) path))
 
 support_apart : (f : Function) → IsValid f → (x y : ℕ) → Supports (read_for f) x y → Supports (read_for f) y y → ⊥
 support_apart f valid x y supports =
@@ -215,9 +215,9 @@ all_pass p q (z ∷ xs) x h all =
     let rest = λ (e : first_where p xs ≡ Some x). all_pass p q xs x e parts.1 in
     by_test (p z) refl parts.0 rest h
   where
-  by_test : (b : Bool) → p z ≡ b → q z ≡ true → (first_where p xs ≡ Some x → (p x ≡ true) × (q x ≡ true)) → cond b (Some z) (first_where p xs) ≡ Some x → (p x ≡ true) × (q x ≡ true)
-  by_test true is passes rest e = subst (λ t. (p t ≡ true) × (q t ≡ true)) (same_Some z x e) (is, passes)
-  by_test false is passes rest e = rest e
+    by_test : (b : Bool) → p z ≡ b → q z ≡ true → (first_where p xs ≡ Some x → (p x ≡ true) × (q x ≡ true)) → cond b (Some z) (first_where p xs) ≡ Some x → (p x ≡ true) × (q x ≡ true)
+    by_test true is passes rest e = subst (λ t. (p t ≡ true) × (q t ≡ true)) (same_Some z x e) (is, passes)
+    by_test false is passes rest e = rest e
 
 any_assigned : (x : ℕ) (us vs : List ℕ) → list_any (λ y. eqb y x) (us ++ x ∷ vs) ≡ true
 any_assigned x [] vs = or_left _ _ (eq-eqb x x refl)
@@ -236,13 +236,13 @@ initial_unassigned : (f : Function) → IsTrue (names_hold f) → (x : ℕ) → 
 unfolding is_initial row_of
 initial_unassigned f h x initial = by_row (first_where (λ (row : NameRow). eqb row.version x) f.names) refl initial
   where
-  by_row : (o : Option NameRow) → first_where (λ (row : NameRow). eqb row.version x) f.names ≡ o → option_map_or (λ (row : NameRow). row.initial) o false ≡ true → is_assigned f x ≡ false
-  by_row None is e = absurd (both_ways false refl e)
-  by_row (Some row) is e =
-      let passes = all_pass (λ (r : NameRow). eqb r.version x) (λ (r : NameRow). base_holds f r && row_stands f r) f.names row is (all_rows f h) in
-      let stands = (and_parts _ _ passes.1).1 in
-      let chosen = subst (λ b. cond b (not (is_assigned f row.version) && is_used f row.version) (is_assigned f row.version || (same_text row.base [] && not (is_used f row.version))) ≡ true) e stands in
-      subst (λ v. is_assigned f v ≡ false) (eqb-true row.version x passes.0) (not-true _ ((and_parts _ _ chosen).0))
+    by_row : (o : Option NameRow) → first_where (λ (row : NameRow). eqb row.version x) f.names ≡ o → option_map_or (λ (row : NameRow). row.initial) o false ≡ true → is_assigned f x ≡ false
+    by_row None is e = absurd (both_ways false refl e)
+    by_row (Some row) is e =
+        let passes = all_pass (λ (r : NameRow). eqb r.version x) (λ (r : NameRow). base_holds f r && row_stands f r) f.names row is (all_rows f h) in
+        let stands = (and_parts _ _ passes.1).1 in
+        let chosen = subst (λ b. cond b (not (is_assigned f row.version) && is_used f row.version) (is_assigned f row.version || (same_text row.base [] && not (is_used f row.version))) ≡ true) e stands in
+        subst (λ v. is_assigned f v ≡ false) (eqb-true row.version x passes.0) (not-true _ ((and_parts _ _ chosen).0))
 
 first_read : (reads : ℕ → List ℕ) (x y : ℕ) → Supports reads x y → (w : ℕ) × IsTrue (is_among w (reads x))
 first_read reads x y (operand _ _ reads_it) = (y, reads_it)
@@ -252,7 +252,7 @@ initial_reads_nothing : (f : Function) → IsValid f → (x y : ℕ) → IsTrue 
 initial_reads_nothing f valid x y initial supports =
     let read = first_read (read_for f) x y supports in
     both_ways _ (initial_unassigned f valid.well_formed.names x initial)
-        (stands_assigned f (IsReadableUse f) x read.0 (reader_stands f (IsReadableUse f) x read.0 read.1 valid.readable))
+    (stands_assigned f (IsReadableUse f) x read.0 (reader_stands f (IsReadableUse f) x read.0 read.1 valid.readable))
 
 -- where a name is readable, each name of its support is
 pub support_is_readable : (f : Function) → IsValid f → (x y n : ℕ) (left : List ℕ) → IsReadable f x n left → Supports (read_for f) x y → IsReadable f y n left
@@ -261,3 +261,7 @@ support_is_readable f valid x y n left readable supports = record {
   fresh = λ past path. support_is_fresh (flow_of f) (is_initial f) (read_for f) (read_fresh f valid) (support_apart f valid) (initial_reads_nothing f valid)
       n left past path x y (readable.fresh past path) supports;
 }
+
+pub unreached_is_readable : (f : Function) (x n : ℕ) (left : List ℕ) → ((past : List ℕ) → Path (flow_of f) n left past → ⊥) →
+    (Supports (read_for f) x x → ⊥) → IsReadable f x n left
+unreached_is_readable f x n left unreached apart = record { apart = apart; fresh = λ past path. absurd (unreached past path) }
