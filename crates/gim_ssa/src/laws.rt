@@ -1,12 +1,13 @@
 //! What holds of readability. Each call here does nothing: its contract is a law, which its check proves.
-ghost use Rattle.std.specs.Prelude.{◌≡◌, ℕ, List};
+ghost use Rattle.std.specs.Prelude.{◌≡◌, ◌++◌, ◌↔◌, ℕ, Bool, false, Some, List};
 ghost use Rattle.pm_ops.specs.declared.code.Code.{Code};
 ghost use Rattle.pm_wide.specs.declared.operand.Operand.{Operand};
 ghost use Rattle.gim_ast.specs.declared.function.Function.{Function};
 ghost use Rattle.gim_ast.specs.declared.function.Rhs.{Rhs};
 ghost use Rattle.gim_ast.specs.Substitution.{put_in_all, with_rhs, with_condition};
-ghost use Rattle.gim_ast.specs.Paths.{flow_of, Path};
-ghost use Rattle.gim_ast.specs.Readable.{read_for, Supports, IsReadable, IsValid, IsFirstUnreadable};
+ghost use Rattle.gim_ast.specs.Paths.{Stretch, flow_of, stretch_at, Path};
+ghost use Rattle.gim_ast.specs.Readable.{read_for, is_initial, Supports, IsReadable, IsValid, IsFirstUnreadable};
+ghost use Rattle.gim_ssa.specs.Marks.{AreMarks, TellsSupport, AllLeadToFresh};
 
 /// In a valid function, where a name is readable each name of its support is.
 pub fn support_of_readable_is_readable()
@@ -44,4 +45,13 @@ pub fn right_side_keeps_flow()
 /// So does another condition.
 pub fn condition_keeps_flow()
     ensures { (f : Function) (n : ℕ) (code : Code) (a b : Operand) → flow_of (with_condition n code a b f) ≡ flow_of f }
+{}
+
+/// Marks at the heads of blocks decide where a name is readable: it isn't in its own support, and each mark at the
+/// head of the block leads to fresh behind the names that the block has assigned.
+pub fn marks_decide_readability()
+    ensures { (f : Function) (x : ℕ) (in_support : ℕ → Bool) (marked : ℕ → Bool → Bool) →
+        TellsSupport x in_support (read_for f) → AreMarks x in_support (flow_of f) (is_initial f x) marked →
+        (n : ℕ) (home : Stretch) (front left : List ℕ) → stretch_at (flow_of f) n ≡ Some home → home.assigns ≡ front ++ left →
+        IsReadable f x n left ↔ ((in_support x ≡ false) × AllLeadToFresh x in_support marked n front) }
 {}
