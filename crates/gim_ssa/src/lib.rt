@@ -6,5 +6,6 @@
 
 pub mod laws;
 pub mod reach;
+pub mod readings;
 #[cfg(test)]
 mod tests;
