@@ -1,1 +1,5 @@
+pub mod DistinctLemmas
+pub mod FlowLemmas
 pub mod NumberLemmas
+pub mod ReadableLemmas
+pub mod SupportLemmas

@@ -1,7 +1,9 @@
 pub mod Functions
 pub mod Identifiers
 pub mod Numbers
+pub mod Paths
 pub mod Printing
+pub mod Readable
 pub mod Removal
 pub mod Rewriting
 pub mod Subjects

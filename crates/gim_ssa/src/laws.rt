@@ -1,0 +1,67 @@
+//! What holds of readability. Each call here does nothing: its contract is a law, which its check proves.
+ghost use Rattle.std.specs.Prelude.{◌≡◌, ◌++◌, ◌↔◌, ℕ, Bool, false, Some, List};
+ghost use Rattle.pm_ops.specs.declared.code.Code.{Code};
+ghost use Rattle.pm_wide.specs.declared.operand.Operand.{Operand};
+ghost use Rattle.gim_ast.specs.declared.function.Function.{Function};
+ghost use Rattle.gim_ast.specs.declared.function.Rhs.{Rhs};
+ghost use Rattle.gim_ast.specs.Substitution.{put_in_all, with_rhs, with_condition};
+ghost use Rattle.gim_ast.specs.Paths.{Stretch, flow_of, stretch_at, Path};
+ghost use Rattle.gim_ast.specs.Readable.{read_for, is_initial, Supports, IsReadable, IsValid, IsFirstUnreadable};
+ghost use Rattle.gim_ast.specs.WellFormed.{is_among};
+ghost use Rattle.gim_ssa.specs.declared.reach.Edge.{Edge};
+ghost use Rattle.gim_ssa.specs.Reach.{Reached, AreReadings};
+ghost use Rattle.gim_ssa.specs.Marks.{AreMarks, TellsSupport, AllLeadToFresh};
+
+/// In a valid function, where a name is readable each name of its support is.
+pub fn support_of_readable_is_readable()
+    ensures { (f : Function) (x y n : ℕ) (left : List ℕ) → IsValid f → IsReadable f x n left →
+        Supports (read_for f) x y → IsReadable f y n left }
+{}
+
+/// At a point that no path reaches, each name outside its own support is readable.
+pub fn unreached_points_read_all()
+    ensures { (f : Function) (x n : ℕ) (left : List ℕ) → ((past : List ℕ) → Path (flow_of f) n left past → ⊥) →
+        (Supports (read_for f) x x → ⊥) → IsReadable f x n left }
+{}
+
+/// A function has at most one first unreadable use.
+pub fn first_unreadable_is_one()
+    ensures { (f : Function) (n k x m j y : ℕ) → IsFirstUnreadable f n k x → IsFirstUnreadable f m j y →
+        (n ≡ m) × (k ≡ j) × (x ≡ y) }
+{}
+
+/// A valid function has no first unreadable use.
+pub fn valid_has_no_first_unreadable()
+    ensures { (f : Function) (n k x : ℕ) → IsValid f → IsFirstUnreadable f n k x → ⊥ }
+{}
+
+/// An operand that is put for a name leaves all that paths see of a function.
+pub fn substitution_keeps_flow()
+    ensures { (f : Function) (x : ℕ) (by : Operand) → flow_of (put_in_all x by f) ≡ flow_of f }
+{}
+
+/// So does another right side.
+pub fn right_side_keeps_flow()
+    ensures { (f : Function) (x : ℕ) (rhs : Rhs) → flow_of (with_rhs x rhs f) ≡ flow_of f }
+{}
+
+/// So does another condition.
+pub fn condition_keeps_flow()
+    ensures { (f : Function) (n : ℕ) (code : Code) (a b : Operand) → flow_of (with_condition n code a b f) ≡ flow_of f }
+{}
+
+/// Marks at the heads of blocks decide where a name is readable: it isn't in its own support, and each mark at the
+/// head of the block leads to fresh behind the names that the block has assigned.
+pub fn marks_decide_readability()
+    ensures { (f : Function) (x : ℕ) (in_support : ℕ → Bool) (marked : ℕ → Bool → Bool) →
+        TellsSupport x in_support (read_for f) → AreMarks x in_support (flow_of f) (is_initial f x) marked →
+        (n : ℕ) (home : Stretch) (front left : List ℕ) → stretch_at (flow_of f) n ≡ Some home → home.assigns ≡ front ++ left →
+        IsReadable f x n left ↔ ((in_support x ≡ false) × AllLeadToFresh x in_support marked n front) }
+{}
+
+/// The support of a name is what is reached from the names that its statement reads, along edges from each name to
+/// those that its statement reads.
+pub fn support_is_what_is_reached()
+    ensures { (edges : List Edge) (reads : ℕ → List ℕ) → AreReadings edges reads → (x y : ℕ) →
+        Supports reads x y ↔ Reached edges (λ q. is_among q (reads x)) y }
+{}

@@ -1,0 +1,11 @@
+//! Where a GIMPLE function may read its names.
+//!
+//! A name is readable at a point if it holds there what its operation gives on the present values of its operands,
+//! whichever way the point was reached. The definitions stand in gim_ast: `Paths` and `Readable`.
+#![tactic(auto)]
+
+pub mod laws;
+pub mod reach;
+pub mod readings;
+#[cfg(test)]
+mod tests;
