@@ -2,6 +2,7 @@
 #![tactic(auto)]
 
 use std::env;
+use std::env::Env;
 use std::io::ErrorKind;
 use std::process::ExitCode;
 
