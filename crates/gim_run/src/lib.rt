@@ -1,0 +1,4 @@
+//! Runs of GIMPLE functions: what a function gives on arguments, when it may enter so many blocks.
+#![tactic(auto)]
+
+pub mod laws;
