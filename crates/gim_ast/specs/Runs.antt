@@ -65,18 +65,18 @@ start_env f args = λ x. option_map_or (start_word f args) (row_of f x) (zero_of
 
 -- ---- one block
 
--- what a phi reads from the block that was left. In a well-formed function each phi has an argument for it; without one it
--- would read the 0 of _Bool
-abbrev pub phi_word : ℕ → Env → Phi → Word
-phi_word from env phi = option_map_or (λ (arg : ℕ × Operand). word_of_operand env arg.1) (first_where (λ (arg : ℕ × Operand). arg.0 == from) phi.args) (zero_of bool_type)
-
--- all phis are read in one environment, and only then assigned
-abbrev pub after_phis : ℕ → List Phi → Env → Env
-after_phis from phis env = assign_each (map (λ (phi : Phi). (phi.name, phi_word from env phi)) phis) env
-
 -- the type of a name
 unfoldable pub name_type : Function → ℕ → Ty
 name_type f x = option_map_or (λ (row : NameRow). row.ty) (row_of f x) bool_type
+
+-- what a phi reads from the block that was left. In a well-formed function each phi has an argument for it; without one it
+-- would read the 0 of its type
+abbrev pub phi_word : Function → ℕ → Env → Phi → Word
+phi_word f from env phi = option_map_or (λ (arg : ℕ × Operand). word_of_operand env arg.1) (first_where (λ (arg : ℕ × Operand). arg.0 == from) phi.args) (zero_of (name_type f phi.name))
+
+-- all phis are read in one environment, and only then assigned
+abbrev pub after_phis : Function → ℕ → List Phi → Env → Env
+after_phis f from phis env = assign_each (map (λ (phi : Phi). (phi.name, phi_word f from env phi)) phis) env
 
 abbrev pub rhs_value : Ty → Env → Rhs → Option Word
 rhs_value t env (Copy a) = Some (word_of_operand env a)
@@ -93,7 +93,7 @@ pass_stmts f (stmt ∷ stmts) env = option_map_or (λ w. pass_stmts f stmts (ass
 
 -- the phis and the statements of a block that is entered from a block of the number `from`
 unfoldable pub pass_block : Function → ℕ → Block → Env → Passage
-pass_block f from block env = pass_stmts f block.stmts (after_phis from block.phis env)
+pass_block f from block env = pass_stmts f block.stmts (after_phis f from block.phis env)
 
 -- ---- ends of blocks
 

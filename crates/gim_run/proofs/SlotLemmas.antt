@@ -7,7 +7,9 @@ use Rattle.std.proofs.lemmas.List.{length-map}
 use Rattle.std.proofs.lemmas.Option.{slice_get_cases, slice_get_past}
 use Rattle.std.proofs.Math.Seq.{map-set_same}
 use Rattle.pm_wide.specs.Types.{Ty, Word, bool_type, same_type}
+use Rattle.pm_ops.specs.Codes.{is_comparison_code}
 use Rattle.pm_ops.specs.declared.code.Code.{Code}
+use Rattle.pm_ops.specs.declared.code.Code.TheVariants.{Eq, Ne, Lt, Le, Gt, Ge}
 use Rattle.pm_wide.specs.Typing.{well_typed_operation}
 use Rattle.pm_wide.specs.Operations.{operation_value}
 use Rattle.pm_wide.specs.declared.operand.Operand.{Operand}
@@ -203,3 +205,18 @@ no_value code ty g (a ∷ []) h = absurd (elim h [ inl few ↦ omega arith | inr
 no_value code ty g (a ∷ b ∷ []) h = absurd (elim h [ inl few ↦ omega arith | inr many ↦ omega arith ])
 no_value code ty g (a ∷ b ∷ c ∷ []) h = absurd (elim h [ inl few ↦ omega arith | inr many ↦ omega arith ])
 no_value code ty g (a ∷ b ∷ c ∷ d ∷ operands) h = refl
+
+both : (t u : Ty) → same_type t u ≡ true → (same_type t u && same_type bool_type bool_type) ≡ true
+both t u h = grind arith
+
+-- the comparison at the end of a block is a well-typed operation
+pub comparison_typed : (code : Code) (t u : Ty) → (is_comparison_code code && same_type t u) ≡ true → well_typed_operation code bool_type (t ∷ u ∷ []) ≡ true
+unfolding well_typed_operation
+comparison_typed Eq t u h = both t u h
+comparison_typed Ne t u h = both t u h
+comparison_typed Lt t u h = both t u h
+comparison_typed Le t u h = both t u h
+comparison_typed Gt t u h = both t u h
+comparison_typed Ge t u h = both t u h
+comparison_typed _ t u h = cc
+

@@ -1,17 +1,18 @@
-ghost use Rattle.std.specs.Prelude.{◌≡◌, List, [], ◌∷◌, IsTrue, OnOk, OnErr, map};
+ghost use Rattle.std.specs.Prelude.{◌≡◌, ◌≤◌, length, take, List, [], ◌∷◌, IsTrue, OnOk, OnErr, map};
 ghost use Rattle.std.specs.List.{list_all};
 ghost use Rattle.std.specs.Option.{ok_or};
 ghost use Rattle.pm_wide.specs.Operations.{operation_value};
 ghost use Rattle.pm_wide.specs.Typing.{well_typed_operation};
 ghost use Rattle.pm_wide.specs.Types.{bool_type};
 ghost use Rattle.gim_ast.specs.declared.function.Stmt.{Stmt};
-ghost use Rattle.gim_ast.specs.Functions.{operands_of_rhs};
-ghost use Rattle.gim_ast.specs.WellFormed.{operand_holds, rhs_fits, type_of};
-ghost use Rattle.gim_ast.specs.Runs.{holds, word_of_operand, rhs_value, pass_stmts, Stuck};
+ghost use Rattle.gim_ast.specs.Functions.{operands_of_end, operands_of_rhs};
+ghost use Rattle.gim_ast.specs.WellFormed.{end_fits, operand_holds, rhs_fits, type_of};
+ghost use Rattle.gim_ast.specs.Runs.{holds, lead_of, phi_word, word_of_operand, rhs_value, pass_stmts, Stuck};
 ghost use Rattle.gim_run.specs.Slots.{env_of, AreSlots, stmt_holds, passage_of};
+ghost use Rattle.gim_run.specs.Ways.{lead_of_way};
 
 use crate::slots;
-use gim_ast::{Function, Rhs, Stmt};
+use gim_ast::{End, Function, Phi, Rhs, Stmt};
 use pm_ops::Code;
 use pm_wide::{op_value, IntType, Operand, Undefined, Wide};
 
@@ -119,5 +120,60 @@ fn compares(function: &Function, slots: &[Wide], code: Code, left: Operand, righ
     match two(function, slots, code, IntType::boolean(), left, right) {
         Ok(word) => word.bits() == 1,
         Err(Undefined) => false,
+    }
+}
+
+/// Where an end leads: to the block of a number, or out with a word.
+pub(crate) enum Way {
+    To(u32),
+    Out(Wide),
+}
+
+/// Follows an end.
+#[tactic(auto, using(crate::proofs::SlotLemmas::comparison_typed))]
+pub(crate) fn leave(function: &Function, slots: &[Wide], end: End) -> Way
+    requires slots { AreSlots function.now slots.now }
+    requires known { IsTrue (list_all (operand_holds function.now) (operands_of_end end)) }
+    requires fits { IsTrue (end_fits function.now end) }
+    ensures { lead_of (env_of function.now.names slots.now) end ≡ lead_of_way result }
+{
+    match end {
+        End::Goto(to) => Way::To(to),
+        End::If(code, left, right, yes, no) => {
+            if compares(function, slots, code, left, right) {
+                Way::To(yes)
+            } else {
+                Way::To(no)
+            }
+        }
+        End::Return(a) => Way::Out(slots::word(function, slots, a)),
+    }
+}
+
+/// What a phi reads where the block of the number `from` was left.
+#[tactic(auto, using(std::proofs::lemmas::List::at_drop_more))]
+fn phi(function: &Function, slots: &[Wide], from: u32, phi: &Phi) -> Wide
+    requires slots { AreSlots function.now slots.now }
+    ensures { result ≡ phi_word function.now from (env_of function.now.names slots.now) phi.now }
+{
+    let args = phi.args.as_slice();
+    for at in 0..args.len() {
+        if args[at].0 == from {
+            return slots::word(function, slots, args[at].1);
+        }
+    }
+    Wide::reduce(0, slots::type_of_name(function, phi.name))
+}
+
+/// Reads phis, each into its place of the scratch room.
+#[tactic(auto, using(std::proofs::lemmas::List::at_drop_more))]
+fn read_phis(function: &Function, slots: &[Wide], scratch: &mut [Wide], from: u32, phis: &[Phi])
+    requires slots { AreSlots function.now slots.now }
+    requires room { length phis.now ≤ length scratch.old }
+    ensures words { take (length phis.now) scratch.new ≡ map (phi_word function.now from (env_of function.now.names slots.now)) phis.now }
+    ensures room { length scratch.new ≡ length scratch.old }
+{
+    for at in 0..phis.len() {
+        scratch[at] = phi(function, slots, from, &phis[at]);
     }
 }
