@@ -1,1 +1,3 @@
+pub mod PhiLemmas
 pub mod SlotLemmas
+pub mod StepLemmas

@@ -114,11 +114,11 @@ type_at_operand f words (Name x t) h holds = type_at_name f words h x ∙ known 
     known None e = cc
     known (Some row) e = same_type_is row.ty t e
 
-and_first : (a b : Bool) → (a && b) ≡ true → a ≡ true
+pub and_first : (a b : Bool) → (a && b) ≡ true → a ≡ true
 and_first true b e = refl
 and_first false b e = e
 
-and_second : (a b : Bool) → (a && b) ≡ true → b ≡ true
+pub and_second : (a b : Bool) → (a && b) ≡ true → b ≡ true
 and_second true b e = e
 and_second false b e = cc
 
@@ -137,7 +137,7 @@ still_slots f words x w h is =
 
 -- ---- statements
 
-in_list : {X : Type 0} (xs : List X) (i : ℕ) (x : X) → slice_get xs i ≡ Some x → i < length xs
+pub in_list : {X : Type 0} (xs : List X) (i : ℕ) (x : X) → slice_get xs i ≡ Some x → i < length xs
 in_list xs i x is = elim (slice_get_cases xs i).1 [ inl h ↦ h.1 | inr h ↦ cc ]
 
 pub known_type : (f : Function) (x : ℕ) (row : NameRow) → slice_get f.names (place_of f.names x) ≡ Some row → row.ty ≡ name_type f x

@@ -2,5 +2,8 @@
 #![tactic(auto)]
 
 pub mod laws;
+mod runs;
 mod slots;
 mod steps;
+
+pub use runs::Outcome;

@@ -7,12 +7,13 @@ ghost use Rattle.pm_wide.specs.Types.{bool_type};
 ghost use Rattle.gim_ast.specs.declared.function.Stmt.{Stmt};
 ghost use Rattle.gim_ast.specs.Functions.{operands_of_end, operands_of_rhs};
 ghost use Rattle.gim_ast.specs.WellFormed.{end_fits, operand_holds, rhs_fits, type_of};
-ghost use Rattle.gim_ast.specs.Runs.{holds, lead_of, phi_word, word_of_operand, rhs_value, pass_stmts, Stuck};
+ghost use Rattle.gim_ast.specs.Runs.{assign_each, holds, lead_of, pass_block, phi_word, word_of_operand, rhs_value, pass_stmts, Stuck};
 ghost use Rattle.gim_run.specs.Slots.{env_of, AreSlots, stmt_holds, passage_of};
 ghost use Rattle.gim_run.specs.Ways.{lead_of_way};
+ghost use Rattle.gim_run.specs.Blocks.{block_holds, pair_fits, phi_pair, place_of_block};
 
 use crate::slots;
-use gim_ast::{End, Function, Phi, Rhs, Stmt};
+use gim_ast::{Block, End, Function, Phi, Rhs, Stmt};
 use pm_ops::Code;
 use pm_wide::{op_value, IntType, Operand, Undefined, Wide};
 
@@ -165,15 +166,57 @@ fn phi(function: &Function, slots: &[Wide], from: u32, phi: &Phi) -> Wide
     Wide::reduce(0, slots::type_of_name(function, phi.name))
 }
 
-/// Reads phis, each into its place of the scratch room.
+/// Reads phis, each with its name into its place of the scratch room.
 #[tactic(auto, using(std::proofs::lemmas::List::at_drop_more))]
-fn read_phis(function: &Function, slots: &[Wide], scratch: &mut [Wide], from: u32, phis: &[Phi])
+fn read_phis(function: &Function, slots: &[Wide], scratch: &mut [(u32, Wide)], from: u32, phis: &[Phi])
     requires slots { AreSlots function.now slots.now }
     requires room { length phis.now ≤ length scratch.old }
-    ensures words { take (length phis.now) scratch.new ≡ map (phi_word function.now from (env_of function.now.names slots.now)) phis.now }
+    ensures read { take (length phis.now) scratch.new ≡ map (phi_pair function.now from (env_of function.now.names slots.now)) phis.now }
     ensures room { length scratch.new ≡ length scratch.old }
 {
     for at in 0..phis.len() {
-        scratch[at] = phi(function, slots, from, &phis[at]);
+        scratch[at] = (phis[at].name, phi(function, slots, from, &phis[at]));
     }
+}
+
+/// Writes what phis have read.
+#[tactic(auto, using(std::proofs::lemmas::List::at_drop_more, crate::proofs::SlotLemmas::each_holds, crate::proofs::PhiLemmas::pair_within, crate::proofs::PhiLemmas::pair_typed))]
+fn write_phis(function: &Function, slots: &mut [Wide], read: &[(u32, Wide)])
+    requires slots { AreSlots function.now slots.old }
+    requires fit { IsTrue (list_all (pair_fits function.now) read.now) }
+    ensures words { assign_each read.now (env_of function.now.names slots.old) ≡ env_of function.now.names slots.new }
+    ensures slots { AreSlots function.now slots.new }
+{
+    for at in 0..read.len() {
+        slots::put(function, slots, read[at].0, read[at].1);
+    }
+}
+
+/// Carries a block out that is entered from the block of the number `from`: its phis and its statements. Tells the first
+/// statement that has no value.
+#[tactic(auto, using(crate::proofs::PhiLemmas::phis_fit, crate::proofs::PhiLemmas::block_stmts, crate::proofs::PhiLemmas::block_phis), unfolding(gim_ast::specs::Runs::pass_block))]
+pub(crate) fn pass_block(function: &Function, slots: &mut [Wide], scratch: &mut [(u32, Wide)], from: u32, block: &Block) -> Option<u32>
+    requires slots { AreSlots function.now slots.old }
+    requires holds { IsTrue (block_holds function.now block.now) }
+    requires room { length block.now.phis ≤ length scratch.old }
+    ensures passage { pass_block function.now from block.now (env_of function.now.names slots.old) ≡ passage_of result (env_of function.now.names slots.new) }
+    ensures slots { AreSlots function.now slots.new }
+    ensures room { length scratch.new ≡ length scratch.old }
+{
+    let phis = block.phis.as_slice();
+    read_phis(function, slots, scratch, from, phis);
+    write_phis(function, slots, &scratch[..phis.len()]);
+    pass(function, slots, block.stmts.as_slice())
+}
+
+/// The place of the first block of a number, or the number of blocks.
+pub(crate) fn block_place(blocks: &[Block], number: u32) -> usize
+    ensures { result ≡ place_of_block blocks.now number }
+{
+    for at in 0..blocks.len() {
+        if blocks[at].number == number {
+            return at;
+        }
+    }
+    blocks.len()
 }
