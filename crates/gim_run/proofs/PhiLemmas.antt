@@ -1,5 +1,5 @@
 -- What phis read fits their names.
-use Rattle.std.proofs.Common.{◌≡◌, ℕ, ◌<◌, Bool, true, false, cond, ◌==◌, nat_lt, ◌&&◌, List, [], ◌∷◌, length, map, Option, Some, None, refl, sym, ap, subst, ◌∙◌, arith}
+use Rattle.std.proofs.Common.{◌≡◌, ℕ, ◌<◌, Bool, true, false, cond, ◌==◌, nat_lt, ◌&&◌, List, [], ◌∷◌, length, map, Option, Some, None, refl, subst, ◌∙◌, arith}
 use Rattle.std.specs.Prelude.{slice_get}
 use Rattle.std.specs.Option.{option_map_or}
 use Rattle.std.specs.List.{list_all}
@@ -12,9 +12,9 @@ use Rattle.gim_ast.specs.declared.function.Phi.{Phi}
 use Rattle.gim_ast.specs.declared.function.NameRow.{NameRow}
 use Rattle.gim_ast.specs.Functions.{first_where, row_of, operands_of_phi}
 use Rattle.gim_ast.specs.WellFormed.{operand_holds, phi_fits, type_of}
-use Rattle.gim_ast.specs.Runs.{Env, zero_of, word_of_operand, phi_word, name_type}
+use Rattle.gim_ast.specs.Runs.{zero_of, word_of_operand, name_type}
 use Rattle.gim_run.specs.Slots.{place_of, env_of, AreSlots, stmt_holds}
-use Rattle.gim_run.specs.Blocks.{phi_holds, end_holds, block_holds, phi_pair, pair_fits}
+use Rattle.gim_run.specs.Blocks.{phi_holds, block_holds, phi_pair, pair_fits}
 use Rattle.gim_run.proofs.SlotLemmas.{and_first, and_second, in_list, row_at, type_at_operand}
 
 pub pair_within : (f : Function) (pair : ℕ × Word) → pair_fits f pair ≡ true → place_of f.names pair.0 < length f.names
@@ -53,10 +53,10 @@ args_type : (f : Function) (words : List Word) (from : ℕ) (t : Ty) (args : Lis
 args_type f words from t [] h fits known = refl
 args_type f words from t (arg ∷ args) h fits known =
     choose (arg.0 == from)
-        (type_at_operand f words arg.1 h (and_first (operand_holds f arg.1) (list_all (operand_holds f) (map (λ (a : ℕ × Operand). a.1) args)) known)
-            ∙ same_type_is (type_of arg.1) t (and_first (same_type (type_of arg.1) t) (list_all (λ (a : ℕ × Operand). same_type (type_of a.1) t) args) fits))
-        (args_type f words from t args h (and_second (same_type (type_of arg.1) t) (list_all (λ (a : ℕ × Operand). same_type (type_of a.1) t) args) fits)
-            (and_second (operand_holds f arg.1) (list_all (operand_holds f) (map (λ (a : ℕ × Operand). a.1) args)) known))
+    (type_at_operand f words arg.1 h (and_first (operand_holds f arg.1) (list_all (operand_holds f) (map (λ (a : ℕ × Operand). a.1) args)) known)
+    ∙ same_type_is (type_of arg.1) t (and_first (same_type (type_of arg.1) t) (list_all (λ (a : ℕ × Operand). same_type (type_of a.1) t) args) fits))
+    (args_type f words from t args h (and_second (same_type (type_of arg.1) t) (list_all (λ (a : ℕ × Operand). same_type (type_of a.1) t) args) fits)
+    (and_second (operand_holds f arg.1) (list_all (operand_holds f) (map (λ (a : ℕ × Operand). a.1) args)) known))
   where
     choose : (b : Bool) → (word_of_operand (env_of f.names words) arg.1).ty ≡ t → (option_map_or (λ (a : ℕ × Operand). word_of_operand (env_of f.names words) a.1) (first_where (λ (a : ℕ × Operand). a.0 == from) args) (zero_of t)).ty ≡ t → (option_map_or (λ (a : ℕ × Operand). word_of_operand (env_of f.names words) a.1) (cond b (Some arg) (first_where (λ (a : ℕ × Operand). a.0 == from) args)) (zero_of t)).ty ≡ t
     choose true first rest = first
@@ -69,7 +69,7 @@ phis_fit f words from (phi ∷ phis) h hold =
     let fits : phi_fits f phi ≡ true = and_first (phi_fits f phi) (list_all (operand_holds f) (operands_of_phi phi)) here in
     let known : list_all (operand_holds f) (operands_of_phi phi) ≡ true = and_second (phi_fits f phi) (list_all (operand_holds f) (operands_of_phi phi)) here in
     let first : pair_fits f (phi_pair f from (env_of f.names words) phi) ≡ true =
-        pair_fit f (phi_pair f from (env_of f.names words) phi) (phi_within f phi fits) (args_type f words from (name_type f phi.name) phi.args h (phi_args f phi fits) known) in
+    pair_fit f (phi_pair f from (env_of f.names words) phi) (phi_within f phi fits) (args_type f words from (name_type f phi.name) phi.args h (phi_args f phi fits) known) in
     let rest : list_all (pair_fits f) (map (phi_pair f from (env_of f.names words)) phis) ≡ true = phis_fit f words from phis h (and_second (phi_holds f phi) (list_all (phi_holds f) phis) hold) in
     both (pair_fits f (phi_pair f from (env_of f.names words) phi)) (list_all (pair_fits f) (map (phi_pair f from (env_of f.names words)) phis)) first rest
   where

@@ -1,5 +1,5 @@
 -- Slots are read and written as the words of names.
-use Rattle.std.proofs.Common.{◌≡◌, ℕ, zero, suc, ◌+◌, ◌<◌, ◌≤◌, Bool, true, false, cond, ◌==◌, ◌&&◌, List, [], ◌∷◌, length, map, get_or, set, Option, Some, None, refl, sym, ap, subst, ◌∙◌, ◌⊎◌, inl, inr, arith}
+use Rattle.std.proofs.Common.{◌≡◌, ℕ, zero, suc, ◌<◌, ◌≤◌, Bool, true, false, cond, ◌==◌, ◌&&◌, List, [], ◌∷◌, length, map, get_or, set, Option, Some, None, refl, sym, ap, subst, ◌∙◌, ◌⊎◌, inl, inr, arith}
 use Rattle.std.specs.Prelude.{slice_get}
 use Rattle.std.specs.Option.{option_map_or}
 use Rattle.std.specs.List.{list_all}
@@ -22,7 +22,7 @@ use Rattle.gim_ast.specs.declared.function.Rhs.{Rhs}
 use Rattle.gim_ast.specs.declared.function.Rhs.TheVariants.{Copy, Op}
 use Rattle.gim_ast.specs.Functions.{first_where, row_of, operands_of_rhs}
 use Rattle.gim_ast.specs.WellFormed.{operand_holds, type_of, stmt_fits, rhs_fits}
-use Rattle.gim_ast.specs.Runs.{Env, zero_of, assign, word_of_operand, rhs_value, name_type}
+use Rattle.gim_ast.specs.Runs.{zero_of, assign, word_of_operand, rhs_value, name_type}
 use Rattle.gim_run.specs.Slots.{place_of, env_of, types_of_rows, types_of_words, AreSlots, stmt_holds}
 
 -- ---- reading
@@ -64,10 +64,12 @@ write_at (row ∷ rows) (v ∷ words) x w h within y =
     found false e is =
         let other : (row.version == y) ≡ false = grind arith in
         rw other refl
+
     further : (c d : Bool) → (x == y) ≡ c → (row.version == y) ≡ d → (row.version == x) ≡ false → (t : Word) → t ≡ cond c w (env_of rows words y) → cond d v t ≡ cond c w (cond d v (env_of rows words y))
     further true true e g other t is = absurd (grind arith)
     further false true e g other t is = refl
     further c false e g other t is = is
+
     choose : (b : Bool) → (row.version == x) ≡ b → cond b zero (suc (place_of rows x)) < suc (length rows) → (place_of rows x < length rows → env_of rows (set words (place_of rows x) w) y ≡ assign x w (env_of rows words) y) → env_of (row ∷ rows) (set (v ∷ words) (cond b zero (suc (place_of rows x))) w) y ≡ assign x w (env_of (row ∷ rows) (v ∷ words)) y
     choose true e less rest = found (x == y) refl e
     choose false e less rest = further (x == y) (row.version == y) refl refl e (env_of rows (set words (place_of rows x) w) y) (rest (omega arith))
@@ -194,8 +196,8 @@ two_typed code ty a b u v p q h = subst (λ t. well_typed_operation code ty (t �
 pub three_typed : (code : Code) (ty : Ty) (a b c u v w : Word) → u ≡ a → v ≡ b → w ≡ c → well_typed_operation code ty (a.ty ∷ b.ty ∷ c.ty ∷ []) ≡ true → well_typed_operation code ty (u.ty ∷ v.ty ∷ w.ty ∷ []) ≡ true
 three_typed code ty a b c u v w p q r h =
     subst (λ t. well_typed_operation code ty (t ∷ v.ty ∷ w.ty ∷ []) ≡ true) (ap (λ (x : Word). x.ty) (sym p))
-        (subst (λ t. well_typed_operation code ty (a.ty ∷ t ∷ w.ty ∷ []) ≡ true) (ap (λ (x : Word). x.ty) (sym q))
-            (subst (λ t. well_typed_operation code ty (a.ty ∷ b.ty ∷ t ∷ []) ≡ true) (ap (λ (x : Word). x.ty) (sym r)) h))
+    (subst (λ t. well_typed_operation code ty (a.ty ∷ t ∷ w.ty ∷ []) ≡ true) (ap (λ (x : Word). x.ty) (sym q))
+    (subst (λ t. well_typed_operation code ty (a.ty ∷ b.ty ∷ t ∷ []) ≡ true) (ap (λ (x : Word). x.ty) (sym r)) h))
 
 -- no operation has as many operands
 pub no_value : (code : Code) (ty : Ty) (g : Operand → Word) (operands : List Operand) → (length operands < 1) ⊎ (3 < length operands) → operation_value code ty (map g operands) ≡ None
@@ -219,4 +221,3 @@ comparison_typed Le t u h = both t u h
 comparison_typed Gt t u h = both t u h
 comparison_typed Ge t u h = both t u h
 comparison_typed _ t u h = cc
-

@@ -1,6 +1,6 @@
 -- What is known of blocks on the way.
-use Rattle.std.proofs.Common.{◌≡◌, ℕ, zero, suc, ◌+◌, ◌-◌, ◌≤◌, ◌<◌, Bool, true, false, cond, ◌==◌, ◌&&◌, List, [], ◌∷◌, length, Option, Some, None, refl, sym, ap, subst, ◌∙◌, arith}
-use Rattle.std.specs.Prelude.{slice_get, IsTrue}
+use Rattle.std.proofs.Common.{◌≡◌, ℕ, zero, suc, ◌+◌, ◌-◌, ◌≤◌, ◌<◌, Bool, true, false, cond, ◌==◌, ◌&&◌, List, [], ◌∷◌, length, Some, refl, sym, ap, subst, ◌∙◌, arith}
+use Rattle.std.specs.Prelude.{slice_get}
 use Rattle.std.specs.List.{list_all}
 use Rattle.std.specs.Option.{option_map_or}
 use Rattle.std.proofs.lemmas.Option.{slice_get_past}
@@ -8,7 +8,7 @@ use Rattle.gim_ast.specs.declared.function.Function.{Function}
 use Rattle.gim_ast.specs.declared.function.Block.{Block}
 use Rattle.gim_ast.specs.Functions.{first_where, block_of, operands_of_end}
 use Rattle.gim_ast.specs.WellFormed.{operand_holds, end_fits}
-use Rattle.gim_ast.specs.Runs.{Outcome, Running, Place, Step, Further, Ended, outcome_of, step_in, step_at, run_from}
+use Rattle.gim_ast.specs.Runs.{Outcome, Running, Place, Further, Ended, outcome_of, step_in, step_at, run_from}
 use Rattle.gim_run.specs.Slots.{stmt_holds}
 use Rattle.gim_run.specs.Blocks.{phi_holds, end_holds, block_holds, has_room, place_of_block}
 use Rattle.gim_run.proofs.SlotLemmas.{and_first, and_second}
@@ -35,6 +35,7 @@ block_at f n = at f.blocks
     choose : (b : Bool) (block : Block) (blocks : List Block) → slice_get blocks (place_of_block blocks n) ≡ first_where (λ (x : Block). x.number == n) blocks → slice_get (block ∷ blocks) (cond b zero (suc (place_of_block blocks n))) ≡ cond b (Some block) (first_where (λ (x : Block). x.number == n) blocks)
     choose true block blocks rest = refl
     choose false block blocks rest = rest
+
     at : (blocks : List Block) → slice_get blocks (place_of_block blocks n) ≡ first_where (λ (x : Block). x.number == n) blocks
     at [] = refl
     at (block ∷ blocks) = choose (block.number == n) block blocks (at blocks)

@@ -1,5 +1,4 @@
 -- The code's words for where an end leads, for a step and for an outcome.
-use Rattle.std.specs.Prelude.{ℕ}
 use Rattle.gim_ast.specs.Runs.{Env, Lead}
 use Rattle.gim_ast.specs.Runs as runs
 use Rattle.gim_run.specs.declared.steps.Way.{Way}

@@ -1,11 +1,12 @@
 ghost use Rattle.std.specs.Prelude.{◌≡◌, ◌≤◌, length, IsTrue};
 ghost use Rattle.std.specs.List.{list_all};
-ghost use Rattle.gim_ast.specs.Runs.{run_from, step_at, step_in};
+ghost use Rattle.gim_ast.specs.Runs.{entry_of, run_from, step_at, step_in};
+ghost use Rattle.gim_ast.specs.WellFormed.{IsWellFormed};
 ghost use Rattle.gim_run.specs.Blocks.{block_holds, has_room};
 ghost use Rattle.gim_run.specs.Slots.{env_of, AreSlots};
 ghost use Rattle.gim_run.specs.Ways as ways;
 
-use crate::steps::{block_place, leave, pass_block, Way};
+use crate::steps::{Way, block_place, leave, pass_block};
 use gim_ast::{Block, Function};
 use pm_wide::Wide;
 
@@ -28,7 +29,14 @@ pub(crate) enum Step {
 
 /// Passes a block that is entered from the block of the number `from`.
 #[tactic(auto, using(crate::proofs::StepLemmas::block_end_known, crate::proofs::StepLemmas::block_end_fits))]
-fn inside(function: &Function, slots: &mut [Wide], scratch: &mut [(u32, Wide)], from: u32, to: u32, block: &Block) -> Step
+fn inside(
+    function: &Function,
+    slots: &mut [Wide],
+    scratch: &mut [(u32, Wide)],
+    from: u32,
+    to: u32,
+    block: &Block,
+) -> Step
     requires slots { AreSlots function.now slots.old }
     requires holds { IsTrue (block_holds function.now block.now) }
     requires room { length block.now.phis ≤ length scratch.old }
@@ -51,7 +59,13 @@ fn inside(function: &Function, slots: &mut [Wide], scratch: &mut [(u32, Wide)], 
 
 /// Passes the block of the number `to`. Without such a block it stays where it is.
 #[tactic(auto, using(crate::proofs::StepLemmas::step_inside, crate::proofs::StepLemmas::step_nowhere, crate::proofs::StepLemmas::got_holds, crate::proofs::StepLemmas::room_for))]
-fn advance(function: &Function, slots: &mut [Wide], scratch: &mut [(u32, Wide)], from: u32, to: u32) -> Step
+fn advance(
+    function: &Function,
+    slots: &mut [Wide],
+    scratch: &mut [(u32, Wide)],
+    from: u32,
+    to: u32,
+) -> Step
     requires slots { AreSlots function.now slots.old }
     requires hold { IsTrue (list_all (block_holds function.now) function.now.blocks) }
     requires room { IsTrue (list_all (has_room (length scratch.old)) function.now.blocks) }
@@ -70,7 +84,13 @@ fn advance(function: &Function, slots: &mut [Wide], scratch: &mut [(u32, Wide)],
 
 /// Goes on from the block of a number, until the run ends or as many blocks are entered as `fuel` says.
 #[tactic(auto, using(crate::proofs::StepLemmas::run_on, crate::proofs::StepLemmas::run_out, crate::proofs::StepLemmas::run_ended))]
-pub(crate) fn go(function: &Function, slots: &mut [Wide], scratch: &mut [(u32, Wide)], entry: u32, fuel: u32) -> Outcome
+pub(crate) fn go(
+    function: &Function,
+    slots: &mut [Wide],
+    scratch: &mut [(u32, Wide)],
+    entry: u32,
+    fuel: u32,
+) -> Outcome
     requires slots { AreSlots function.now slots.old }
     requires hold { IsTrue (list_all (block_holds function.now) function.now.blocks) }
     requires room { IsTrue (list_all (has_room (length scratch.old)) function.now.blocks) }
@@ -82,7 +102,10 @@ pub(crate) fn go(function: &Function, slots: &mut [Wide], scratch: &mut [(u32, W
     let mut to = entry;
     for entered in 0..fuel {
         match advance(function, slots, scratch, from, to) {
-            Step::Further { from: left, to: next } => {
+            Step::Further {
+                from: left,
+                to: next,
+            } => {
                 from = left;
                 to = next;
             }
@@ -90,4 +113,26 @@ pub(crate) fn go(function: &Function, slots: &mut [Wide], scratch: &mut [(u32, W
         }
     }
     Outcome::Running
+}
+
+/// Goes on from the entry of a well-formed function, whose slots are as they are to be at the start.
+#[tactic(auto, using(crate::proofs::HoldLemmas::blocks_hold))]
+pub(crate) fn from_entry(
+    function: &Function,
+    slots: &mut [Wide],
+    scratch: &mut [(u32, Wide)],
+    fuel: u32,
+) -> Outcome
+    requires well_formed { IsWellFormed function.now }
+    requires slots { AreSlots function.now slots.old }
+    requires room { IsTrue (list_all (has_room (length scratch.old)) function.now.blocks) }
+    ensures outcome { run_from function.now fuel (record { from = 0; to = entry_of function.now.blocks; env = env_of function.now.names slots.old }) ≡ ways.outcome result }
+    ensures slots { AreSlots function.now slots.new }
+    ensures room { length scratch.new ≡ length scratch.old }
+{
+    let entry = match function.blocks.as_slice() {
+        [first, ..] => first.number,
+        [] => 0,
+    };
+    go(function, slots, scratch, entry, fuel)
 }

@@ -15,11 +15,17 @@ ghost use Rattle.gim_run.specs.Blocks.{block_holds, pair_fits, phi_pair, place_o
 use crate::slots;
 use gim_ast::{Block, End, Function, Phi, Rhs, Stmt};
 use pm_ops::Code;
-use pm_wide::{op_value, IntType, Operand, Undefined, Wide};
+use pm_wide::{IntType, Operand, Undefined, Wide, op_value};
 
 /// The value of an operation on operands.
 #[tactic(auto, unfolding(pm_wide::specs::Operations::operation_value, pm_wide::specs::Typing::well_typed_operation))]
-fn operation(function: &Function, slots: &[Wide], code: Code, ty: IntType, operands: &[Operand]) -> Result<Wide, Undefined>
+fn operation(
+    function: &Function,
+    slots: &[Wide],
+    code: Code,
+    ty: IntType,
+    operands: &[Operand],
+) -> Result<Wide, Undefined>
     requires slots { AreSlots function.now slots.now }
     requires known { IsTrue (list_all (operand_holds function.now) operands.now) }
     requires typed { IsTrue (well_typed_operation code ty (map type_of operands.now)) }
@@ -33,7 +39,13 @@ fn operation(function: &Function, slots: &[Wide], code: Code, ty: IntType, opera
     }
 }
 
-fn one(function: &Function, slots: &[Wide], code: Code, ty: IntType, a: Operand) -> Result<Wide, Undefined>
+fn one(
+    function: &Function,
+    slots: &[Wide],
+    code: Code,
+    ty: IntType,
+    a: Operand,
+) -> Result<Wide, Undefined>
     requires slots { AreSlots function.now slots.now }
     requires known { IsTrue (list_all (operand_holds function.now) (a ∷ [])) }
     requires typed { IsTrue (well_typed_operation code ty (map type_of (a ∷ []))) }
@@ -42,7 +54,14 @@ fn one(function: &Function, slots: &[Wide], code: Code, ty: IntType, a: Operand)
     op_value(code, ty, &[slots::word(function, slots, a)])
 }
 
-fn two(function: &Function, slots: &[Wide], code: Code, ty: IntType, a: Operand, b: Operand) -> Result<Wide, Undefined>
+fn two(
+    function: &Function,
+    slots: &[Wide],
+    code: Code,
+    ty: IntType,
+    a: Operand,
+    b: Operand,
+) -> Result<Wide, Undefined>
     requires slots { AreSlots function.now slots.now }
     requires known { IsTrue (list_all (operand_holds function.now) (a ∷ b ∷ [])) }
     requires typed { IsTrue (well_typed_operation code ty (map type_of (a ∷ b ∷ []))) }
@@ -53,7 +72,15 @@ fn two(function: &Function, slots: &[Wide], code: Code, ty: IntType, a: Operand,
     op_value(code, ty, &[a, b])
 }
 
-fn three(function: &Function, slots: &[Wide], code: Code, ty: IntType, a: Operand, b: Operand, c: Operand) -> Result<Wide, Undefined>
+fn three(
+    function: &Function,
+    slots: &[Wide],
+    code: Code,
+    ty: IntType,
+    a: Operand,
+    b: Operand,
+    c: Operand,
+) -> Result<Wide, Undefined>
     requires slots { AreSlots function.now slots.now }
     requires known { IsTrue (list_all (operand_holds function.now) (a ∷ b ∷ c ∷ [])) }
     requires typed { IsTrue (well_typed_operation code ty (map type_of (a ∷ b ∷ c ∷ []))) }
@@ -168,7 +195,13 @@ fn phi(function: &Function, slots: &[Wide], from: u32, phi: &Phi) -> Wide
 
 /// Reads phis, each with its name into its place of the scratch room.
 #[tactic(auto, using(std::proofs::lemmas::List::at_drop_more))]
-fn read_phis(function: &Function, slots: &[Wide], scratch: &mut [(u32, Wide)], from: u32, phis: &[Phi])
+fn read_phis(
+    function: &Function,
+    slots: &[Wide],
+    scratch: &mut [(u32, Wide)],
+    from: u32,
+    phis: &[Phi],
+)
     requires slots { AreSlots function.now slots.now }
     requires room { length phis.now ≤ length scratch.old }
     ensures read { take (length phis.now) scratch.new ≡ map (phi_pair function.now from (env_of function.now.names slots.now)) phis.now }
@@ -195,7 +228,13 @@ fn write_phis(function: &Function, slots: &mut [Wide], read: &[(u32, Wide)])
 /// Carries a block out that is entered from the block of the number `from`: its phis and its statements. Tells the first
 /// statement that has no value.
 #[tactic(auto, using(crate::proofs::PhiLemmas::phis_fit, crate::proofs::PhiLemmas::block_stmts, crate::proofs::PhiLemmas::block_phis), unfolding(gim_ast::specs::Runs::pass_block))]
-pub(crate) fn pass_block(function: &Function, slots: &mut [Wide], scratch: &mut [(u32, Wide)], from: u32, block: &Block) -> Option<u32>
+pub(crate) fn pass_block(
+    function: &Function,
+    slots: &mut [Wide],
+    scratch: &mut [(u32, Wide)],
+    from: u32,
+    block: &Block,
+) -> Option<u32>
     requires slots { AreSlots function.now slots.old }
     requires holds { IsTrue (block_holds function.now block.now) }
     requires room { length block.now.phis ≤ length scratch.old }

@@ -1,4 +1,4 @@
-use Rattle.std.proofs.Common.{◌≡◌, ◌≤◌, ◌∙◌, ap, sym, subst, length, arith, Some}
+use Rattle.std.proofs.Common.{◌≡◌, ◌≤◌, ◌∙◌, length, arith, Some}
 use Rattle.std.specs.Prelude.{slice_get}
 use Rattle.gim_run.specs.Blocks.{block_holds, has_room, place_of_block}
 use Rattle.gim_run.specs.Slots.{env_of}

@@ -16,7 +16,7 @@ pub put-requires-clause-typed : goal.put-requires-clause-typed
 put-requires-clause-typed c =
     let value : rhs_value c.type_of_name-ty.result (env_of c.args.function.now.names c.args.slots.now) c.args.stmt.now.rhs ≡ Some c.in_ok-word.word = grind arith in
     right_type c.args.function.now c.args.slots.now c.type_of_name-ty.result c.args.stmt.now.rhs c.in_ok-word.word c.requires.slots
-        (stmt_known c.args.function.now c.args.stmt.now c.requires.holds)
-        (subst (λ t. IsTrue (rhs_fits t c.args.stmt.now.rhs)) (sym c.type_of_name-ty.ensures) (stmt_typed c.args.function.now c.args.stmt.now c.requires.holds))
-        value
+    (stmt_known c.args.function.now c.args.stmt.now c.requires.holds)
+    (subst (λ t. IsTrue (rhs_fits t c.args.stmt.now.rhs)) (sym c.type_of_name-ty.ensures) (stmt_typed c.args.function.now c.args.stmt.now c.requires.holds))
+    value
     ∙ c.type_of_name-ty.ensures

@@ -1,5 +1,4 @@
 use Rattle.std.proofs.Common.{◌≡◌, ℕ, ◌==◌, drop}
-use Rattle.std.specs.Option.{option_map_or}
 use Rattle.pm_wide.specs.declared.operand.Operand.{Operand}
 use Rattle.gim_ast.specs.Functions.{first_where}
 use Rattle.gim_run.proofs.steps.phi.Given as goal
