@@ -6,6 +6,7 @@ pub mod Printing
 pub mod Readable
 pub mod Removal
 pub mod Rewriting
+pub mod Runs
 pub mod Subjects
 pub mod Substitution
 pub mod WellFormed

@@ -1,0 +1,4 @@
+pub mod HoldLemmas
+pub mod PhiLemmas
+pub mod SlotLemmas
+pub mod StepLemmas
