@@ -1,12 +1,11 @@
 //! Simplifies GIMPLE functions by patterns. `main` only: all that the program does is `match_top::run`.
 #![tactic(auto)]
 
+use pm_io::{FileInputs, StdSink};
 use std::env;
 use std::env::Env;
 use std::io::ErrorKind;
 use std::process::ExitCode;
-
-use pm_io::{FileInputs, StdSink};
 
 /// The status for want of memory.
 const NO_MEMORY: u8 = 8;

@@ -50,13 +50,13 @@ in_lines : (lines : List Line) (row : NameRow) → Has (flat_map rows_of_line li
 in_lines [] row h = absurd h
 in_lines (line ∷ lines) row h =
     ⊎_elim (λ a. ⊎_elim (in_taken line.left row) (in_taken line.right row) (has_either (rows_of_taken line.left) (rows_of_taken line.right) row a))
-        (in_lines lines row) (has_either (rows_of_line line) (flat_map rows_of_line lines) row h)
+    (in_lines lines row) (has_either (rows_of_line line) (flat_map rows_of_line lines) row h)
 
 in_named : (draft : Draft) (row : NameRow) → Has (named_rows draft) row → IsUnsigned row
 in_named draft row h =
     ⊎_elim (in_locals draft.locals row)
-        (λ b. ⊎_elim (in_lines draft.lines row) (in_taken draft.end row) (has_either (flat_map rows_of_line draft.lines) (rows_of_taken draft.end) row b))
-        (has_either (map local_row draft.locals) (flat_map rows_of_line draft.lines ++ rows_of_taken draft.end) row h)
+    (λ b. ⊎_elim (in_lines draft.lines row) (in_taken draft.end row) (has_either (flat_map rows_of_line draft.lines) (rows_of_taken draft.end) row b))
+    (has_either (map local_row draft.locals) (flat_map rows_of_line draft.lines ++ rows_of_taken draft.end) row h)
 
 rows_agree : (draft : Draft) (names : List NameRow) → AreNames (named_rows draft) names → list_all (row_agrees (λ x. unsigned_int_type)) names ≡ true
 rows_agree draft names are = all_of (row_agrees (λ x. unsigned_int_type)) names (λ row h. let e : row.ty ≡ unsigned_int_type = in_named draft row (are.none_else row h) in ap (λ t. same_type t unsigned_int_type) e)

@@ -88,7 +88,7 @@ module _ (row_at : View → Subject → Option (ℕ × Operand)) where
   rise_rewritten_by zero f h = h
   rise_rewritten_by (suc n) f h =
       rise_at (λ found. with_firing row_at (firing_of row_at f found) (rewritten_by row_at n (stepped row_at f found))) (record { function = f; firings = []; exhausted = false })
-          (λ found. rise_rewritten_by n (stepped row_at f found) (rise_stepped f found h)) h (first_choice row_at f)
+      (λ found. rise_rewritten_by n (stepped row_at f found) (rise_stepped f found h)) h (first_choice row_at f)
 
   pub rise_rewriting : (budget : ℕ) (f : Function) → names_rise f ≡ true → names_rise (rewriting_of row_at budget f).function ≡ true
   rise_rewriting budget f h = rise_rewritten_by budget (tidied f) (rise_tidied f h)

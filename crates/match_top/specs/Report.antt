@@ -2,7 +2,6 @@
 use Rattle.std.specs.Prelude.{ℕ, ◌+◌, ◌-◌, Bool, true, false, if◌then◌else◌, List, [], ◌∷◌, ◌++◌, Option, Some, None, codes, decimal, slice_get}
 use Rattle.std.specs.List.{flat_map}
 use Rattle.std.specs.Option.{option_map_or}
-
 use Rattle.gim_ast.specs.Printing.{name_text}
 use Rattle.gim_ast.specs.Subjects.{Site, AtStmt, AtCond}
 use Rattle.gim_ast.specs.Rewriting.{What, IsCopy, IsSwap, IsFold, IsRow, Firing, Rewritten}

@@ -3,10 +3,9 @@ ghost use Rattle.std.specs.Prelude.{◌≡◌, ◌++◌, ◌∷◌, [], IfOk};
 ghost use Rattle.match_top.specs.Answers.{refusal};
 ghost use Rattle.match_top.specs.Stages.{answer_of, answered, refused_with};
 
-use std::alloc::Global;
-
 use pm_items::Items;
 use pm_ops::OutOfMemory;
+use std::alloc::Global;
 
 /// The status for want of memory.
 const NO_MEMORY: u8 = 8;

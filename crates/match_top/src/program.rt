@@ -9,14 +9,12 @@ ghost use Rattle.match_top.specs.Settings.{spelled};
 ghost use Rattle.match_top.specs.Stages.{answered};
 ghost use Rattle.match_top.specs.Writing.{Writes};
 
-use std::alloc::Global;
-
-use pm_io::{Inputs, Sink};
-
 use crate::answer::{Answer, Stop, refused, settle};
 use crate::simplify::simplify;
 use crate::words::{Command, settings};
 use crate::writing::write;
+use pm_io::{Inputs, Sink};
+use std::alloc::Global;
 
 /// Does all that the program does: reads what the words ask for, writes the answer to `out` and then to `report`, and answers the
 /// status.
@@ -31,7 +29,7 @@ pub fn run<I: Inputs, O: Sink, E: Sink>(
     ensures answer { (p : Given) × (g : Given) × (a : answers.Answer)
         × IsAnswer (command_of (map string_bytes words.now)) p g a
         × Writes a (record { old = O.taken out.old; new = O.taken out.new; faults_old = O.faults out.old; faults_new = O.faults out.new })
-            (record { old = E.taken report.old; new = E.taken report.new; faults_old = E.faults report.old; faults_new = E.faults report.new }) result
+        (record { old = E.taken report.old; new = E.taken report.new; faults_old = E.faults report.old; faults_new = E.faults report.new }) result
         × HasReason (I.faults inputs.old) (I.faults inputs.new) p
         × HasReason (I.faults inputs.old) (I.faults inputs.new) g
         × IfSome (I.holds inputs.old) (λ held. CommandAgrees held (I.left inputs.new) (command_of (map string_bytes words.now)) p g) }
@@ -65,7 +63,11 @@ fn answer<I: Inputs>(alloc: Global, words: &[String], inputs: &mut I) -> Result<
 }
 
 /// Does what is asked, or refuses words that ask for nothing.
-fn perform<I: Inputs>(alloc: Global, command: Option<Command>, inputs: &mut I) -> Result<Answer, Stop>
+fn perform<I: Inputs>(
+    alloc: Global,
+    command: Option<Command>,
+    inputs: &mut I,
+) -> Result<Answer, Stop>
     ensures answer { (p : Given) × (g : Given)
         × IsAnswer (spelled command) p g (answered result)
         × HasReason (I.faults inputs.old) (I.faults inputs.new) p

@@ -3,14 +3,13 @@ ghost use Rattle.std.specs.Prelude.{◌≡◌, ◌++◌, ◌<◌, ◌≤◌, ◌
 ghost use Rattle.match_top.specs.Report.{site_text, place_text, row_text, what_text, firing_line, report_of};
 ghost use Rattle.first_rewriting.specs.Views.{site_of, what_of, firing_told, rewritten};
 
-use std::alloc::Global;
-
 use first_patterns::Row;
 use first_rewriting::{Firing, Simplified, Site, What};
 use gim_printer::{push_name, push_number};
 use pm_items::Items;
 use pm_ops::OutOfMemory;
 use pm_places::line_column;
+use std::alloc::Global;
 
 /// The report on the rewriting of the function of that name, by the rows of a pattern file: a line for each step, and one
 /// where the budget was spent.

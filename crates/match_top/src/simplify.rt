@@ -8,13 +8,11 @@ ghost use Rattle.match_top.specs.Given.{FilesAgree, FunctionsAgree, HasReason};
 ghost use Rattle.match_top.specs.Stages.{answered};
 ghost use Rattle.std.specs.Prelude.{IsTrue};
 
-use std::alloc::Global;
-
-use gim_ast::Function;
-use pm_io::{Inputs, read_all};
-
 use crate::answer::{Answer, Stop};
 use crate::stages::{Patterns, read_function, read_patterns, rewrite};
+use gim_ast::Function;
+use pm_io::{Inputs, read_all};
+use std::alloc::Global;
 
 /// The greatest length of a pattern file.
 const PATTERNS_LIMIT: usize = 4_194_304;

@@ -8,18 +8,16 @@ ghost use Rattle.match_top.specs.Answers.{Bytes, ReadsPatterns, ReadsFunction, s
 ghost use Rattle.match_top.specs.Stages.{answer_of, stage_of, given_by};
 ghost use Rattle.first_rewriting.specs.Views.{rewritten};
 
-use std::alloc::Global;
-use std::slice;
-
+use crate::answer::{Answer, Stop, refused};
+use crate::report::report;
 use first_patterns::Row;
 use first_rewriting::Simplified;
 use gim_ast::Function;
 use pm_io::ReadFault;
 use pm_items::Items;
 use pm_ops::OutOfMemory;
-
-use crate::answer::{Answer, Stop, refused};
-use crate::report::report;
+use std::alloc::Global;
+use std::slice;
 
 /// How many steps a function may take.
 const BUDGET: u32 = 10_000;
@@ -44,7 +42,12 @@ pub fn read_patterns(
     match given {
         Ok(source) => match first_patterns::read(alloc, &source) {
             Ok(rows) => Ok(Patterns { source, rows }),
-            Err(first_patterns::ReadFault::NotFirst) => Err(refused(alloc, 3, "patterns: NotYet", "")),
+            Err(first_patterns::ReadFault::NotFirst) => Err(refused(
+                alloc,
+                3,
+                "patterns: NotYet",
+                "",
+            )),
             Err(first_patterns::ReadFault::Memory) => Err(Stop::Memory),
         },
         Err(ReadFault::TooLong) => Err(refused(alloc, 3, "patterns:1:1: TooLong", "")),
@@ -109,9 +112,19 @@ fn answer(
     ensures { IfOk result (λ a. answer_of a ≡ written patterns.now.source.items patterns.now.rows name.now (rewritten done.now)) }
 {
     let out = print_one(alloc, &done.function)?;
-    let report = report(alloc, &patterns.source, patterns.rows.as_slice(), name, done)?;
+    let report = report(
+        alloc,
+        &patterns.source,
+        patterns.rows.as_slice(),
+        name,
+        done,
+    )?;
     let status = status(done.exhausted);
-    Ok(Answer { status, out, report })
+    Ok(Answer {
+        status,
+        out,
+        report,
+    })
 }
 
 /// The text of one function.

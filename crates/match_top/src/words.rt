@@ -2,9 +2,8 @@ ghost use Rattle.std.specs.Prelude.{◌≡◌, ◌↔◌, IsTrue, IfOk, map, str
 ghost use Rattle.match_top.specs.Words.{command_of, is_positional};
 ghost use Rattle.match_top.specs.Settings.{spelled};
 
-use std::alloc::Global;
-
 use pm_ops::OutOfMemory;
+use std::alloc::Global;
 
 /// What the words of the command line ask for: `simplify P G`, the only command as yet.
 #[derive(Debug, Drop)]

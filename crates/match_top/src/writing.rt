@@ -3,9 +3,8 @@ ghost use Rattle.std.specs.Prelude.{◌≤◌};
 ghost use Rattle.match_top.specs.Writing.{Writes};
 ghost use Rattle.match_top.specs.Stages.{answer_of};
 
-use pm_io::{Sink, write_all};
-
 use crate::answer::Answer;
+use pm_io::{Sink, write_all};
 
 /// The status where a write failed.
 const WRITE_FAILED: u8 = 6;

@@ -8,5 +8,5 @@ use Rattle.match_top.proofs.stages.read_function.Goals as goal
 pub returns-in-Err-NotFirst-clause-reads : goal.returns-in-Err-NotFirst-clause-reads
 returns-in-Err-NotFirst-clause-reads c =
     let none : (f : Function) → IsFirstForm c.in-Ok.source.items f → ⊥ =
-        subst (λ (source : List ℕ). (f : Function) → IsFirstForm source f → ⊥) c.deref.ensures.value (refused_is_none _ _ c.in-Err-NotFirst.field-0-is c.in-Err-NotFirst.ensures.only) in
+    subst (λ (source : List ℕ). (f : Function) → IsFirstForm source f → ⊥) c.deref.ensures.value (refused_is_none _ _ c.in-Err-NotFirst.field-0-is c.in-Err-NotFirst.ensures.only) in
     rw c.in-Ok.is (⊎_elim (λ e. inl (none, e)) (λ e. inr e) c.refused.ensures)
