@@ -1,5 +1,6 @@
 pub mod Answers
 pub mod Given
+pub mod Held
 pub mod Report
 pub mod Settings
 pub mod Stages
