@@ -168,7 +168,7 @@ held_answer None held left p g answer before now h reason_p reason_g agrees quie
 held_answer (Some (Simplify patterns functions)) held left p g answer before now (inr e) reason_p reason_g agrees quiet = inr e
 held_answer (Some (Simplify patterns functions)) held left p g answer before now (inl h) reason_p reason_g agrees quiet =
     ⊎_elim (λ first. functions_held patterns functions answer (held functions) (given_of patterns_limit (held patterns)) g first.stage first.reads first.after agrees.functions_agree.functions_given (was_read before now g reason_g quiet))
-        (λ e. inr e) (patterns_held patterns functions answer (held patterns) p g h agrees.patterns_given (was_read before now p reason_p quiet))
+    (λ e. inr e) (patterns_held patterns functions answer (held patterns) p g h agrees.patterns_given (was_read before now p reason_p quiet))
 
 -- where no sink's count rose, all was written
 pub wrote_all : (answer : Answer) (out report : Sunk) (status : ℕ) → Writes answer out report status → ¬ Rose out.faults_old out.faults_new → ¬ Rose report.faults_old report.faults_new → WroteAll answer out report status

@@ -11,3 +11,6 @@ mod writing;
 
 pub use program::run;
 pub use words::{Command, settings};
+
+#[cfg(test)]
+mod tests;

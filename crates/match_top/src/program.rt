@@ -39,8 +39,8 @@ pub fn run<I: Inputs, O: Sink, E: Sink>(
     // exactly where they ask for it, but for want of memory.
     ensures held { ¬ Rose (I.faults inputs.old) (I.faults inputs.new) → ¬ Rose (O.faults out.old) (O.faults out.new) → ¬ Rose (E.faults report.old) (E.faults report.new)
         → IfSome (I.holds inputs.old) (λ held. GivesHeldAnswer held (command_of (map string_bytes words.now))
-            (record { old = O.taken out.old; new = O.taken out.new; faults_old = O.faults out.old; faults_new = O.faults out.new })
-            (record { old = E.taken report.old; new = E.taken report.new; faults_old = E.faults report.old; faults_new = E.faults report.new }) result) }
+        (record { old = O.taken out.old; new = O.taken out.new; faults_old = O.faults out.old; faults_new = O.faults out.new })
+        (record { old = E.taken report.old; new = E.taken report.new; faults_old = E.faults report.old; faults_new = E.faults report.new }) result) }
 
     // 2 comes only where the words have no command, and 6 only where a sink's count of faults rose.
     ensures two { result ≡ 2 → command_of (map string_bytes words.now) ≡ None }
