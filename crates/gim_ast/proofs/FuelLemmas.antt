@@ -1,5 +1,5 @@
 -- More fuel changes no outcome but Running.
-use Rattle.std.proofs.Common.{◌≡◌, ℕ, zero, suc, ◌+◌, ◌-◌, ◌≤◌, List, refl, sym, ap, subst, ◌∙◌, ◌⊎◌, inl, inr, arith}
+use Rattle.std.proofs.Common.{◌≡◌, ℕ, zero, suc, ◌+◌, ◌-◌, ◌≤◌, List, refl, sym, subst, ◌∙◌, ◌⊎◌, inl, inr, arith}
 use Rattle.pm_wide.specs.Types.{Word}
 use Rattle.gim_ast.specs.declared.function.Function.{Function}
 use Rattle.gim_ast.specs.Runs.{Outcome, Running, Place, Step, Further, Ended, outcome_of, step_at, run_from, start_of, run_of}
@@ -28,14 +28,14 @@ some_more f place fuel zero =
 some_more f place fuel (suc more) =
     let same : suc (more + fuel) ≡ suc more + fuel = omega arith in
     subst (λ n. Agrees (run_from f fuel place) (run_from f n place)) same
-        (agrees_on (some_more f place fuel more) (one_more f (more + fuel) place))
+    (agrees_on (some_more f place fuel more) (one_more f (more + fuel) place))
 
 pub more_fuel : (f : Function) (args : List Word) (less more : ℕ) → less ≤ more → Agrees (run_of f args less) (run_of f args more)
 unfolding run_of
 more_fuel f args less more le =
     let same : (more - less) + less ≡ more = omega arith in
     subst (λ n. Agrees (run_from f less (start_of f args)) (run_from f n (start_of f args))) same
-        (some_more f (start_of f args) less (more - less))
+    (some_more f (start_of f args) less (more - less))
 
 pub more_fuel_same : (f : Function) (args : List Word) (less more : ℕ) → less ≤ more → (run_of f args less ≡ Running → ⊥) → run_of f args more ≡ run_of f args less
 more_fuel_same f args less more le ends = elim (more_fuel f args less more le) [ inl running ↦ absurd (ends running) | inr same ↦ same ]
