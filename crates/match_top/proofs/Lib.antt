@@ -4,3 +4,4 @@ pub mod GivenLemmas
 pub mod HeldLemmas
 pub mod NameLemmas
 pub mod RowLemmas
+pub mod StatusLemmas

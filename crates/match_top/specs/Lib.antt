@@ -4,5 +4,6 @@ pub mod Held
 pub mod Report
 pub mod Settings
 pub mod Stages
+pub mod Statuses
 pub mod Words
 pub mod Writing

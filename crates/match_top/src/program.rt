@@ -5,6 +5,7 @@ ghost use Rattle.match_top.specs.Answers as answers;
 ghost use Rattle.match_top.specs.Answers.{Given, IsAnswer};
 ghost use Rattle.match_top.specs.Given.{HasReason, CommandAgrees};
 ghost use Rattle.match_top.specs.Held.{GivesHeldAnswer};
+ghost use Rattle.match_top.specs.Statuses.{StatusSays};
 ghost use Rattle.match_top.specs.Words.{command_of};
 ghost use Rattle.match_top.specs.Settings.{spelled};
 ghost use Rattle.match_top.specs.Stages.{answered};
@@ -41,6 +42,9 @@ pub fn run<I: Inputs, O: Sink, E: Sink>(
         → IfSome (I.holds inputs.old) (λ held. GivesHeldAnswer held (command_of (map string_bytes words.now))
         (record { old = O.taken out.old; new = O.taken out.new; faults_old = O.faults out.old; faults_new = O.faults out.new })
         (record { old = E.taken report.old; new = E.taken report.new; faults_old = E.faults report.old; faults_new = E.faults report.new }) result) }
+
+    // What each status says of the held files, where the inputs tell them: 3, 4, 5, 0 and 7 have their causes there.
+    ensures says { IfSome (I.holds inputs.old) (λ held. StatusSays held (command_of (map string_bytes words.now)) (Rose (I.faults inputs.old) (I.faults inputs.new)) result) }
 
     // 2 comes only where the words have no command, and 6 only where a sink's count of faults rose.
     ensures two { result ≡ 2 → command_of (map string_bytes words.now) ≡ None }

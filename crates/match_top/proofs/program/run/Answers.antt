@@ -1,5 +1,6 @@
 -- What the status says, by the answer that was written.
 use Rattle.match_top.proofs.HeldLemmas.{two_only, six_has_cause, gives_held}
+use Rattle.match_top.proofs.StatusLemmas.{status_says}
 use Rattle.match_top.proofs.program.run.Goals as goal
 
 pub returns-clause-two : goal.returns-clause-two
@@ -16,3 +17,8 @@ pub returns-clause-held : goal.returns-clause-held
 returns-clause-held g c =
     let e = c.serve.ensures.answer in
     λ quiet quiet_out quiet_report. gives_held _ _ _ e.0 e.1 e.2 _ _ _ _ _ e.3 e.4 e.5 e.6 e.7 quiet quiet_out quiet_report
+
+pub returns-clause-says : goal.returns-clause-says
+returns-clause-says g c =
+    let e = c.serve.ensures.answer in
+    status_says _ _ _ e.0 e.1 e.2 _ _ _ _ _ e.3 e.4 e.5 e.6 e.7
