@@ -96,3 +96,10 @@ unread bytes Memory none f form = refl
 -- a text stands for one function at most
 pub one_for_text : (bytes : List ℕ) (f g : Function) → IsFirstForm bytes f → IsFirstForm bytes g → f ≡ g
 one_for_text bytes f g p q = one_function p.draft f g p.stands (same_draft bytes p.draft g (draft_of_form bytes f p) q).1
+
+-- what is refused stands for nothing
+pub refused_by : (bytes : List ℕ) (r : Result Function FirstFault) → ((f : Function) → IsFirstForm bytes f → MatchResult r (λ g. g ≡ f) (λ fault. fault ≡ Memory))
+    → r ≡ Err NotFirst → (f : Function) → IsFirstForm bytes f → ⊥
+refused_by bytes (Ok g) only e f form = absurd cc
+refused_by bytes (Err NotFirst) only e f form = let fault : NotFirst ≡ Memory = only f form in absurd cc
+refused_by bytes (Err Memory) only e f form = absurd cc

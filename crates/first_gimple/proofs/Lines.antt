@@ -8,8 +8,8 @@ use Rattle.first_gimple.specs.declared.draft.Line.{Line}
 use Rattle.first_gimple.specs.declared.draft.Taken.{Taken}
 use Rattle.first_gimple.specs.declared.draft.Taken.TheVariants.{Local, Initial, Literal}
 use Rattle.first_gimple.specs.Tokens.{Token}
-use Rattle.first_gimple.specs.Reading.{versions, literal_of, local_of, code_of, taken_from, taken_at, line_at, local_at, param_at, further_param_at}
-use Rattle.first_gimple.specs.Spelling.{SpellsTaken, SpellsLine, SpellsLocal, SpellsFurther}
+use Rattle.first_gimple.specs.Reading.{literal_of, local_of, code_of, taken_from, taken_at, line_at, local_at, param_at, further_param_at}
+use Rattle.first_gimple.specs.Spelling.{versions, SpellsTaken, SpellsLine, SpellsLocal, SpellsFurther}
 use Rattle.first_gimple.proofs.Words.{then_some, then_here, some_is, fixed_is, fixed_here, token_is, token_here, meant_is, meant_here, type_is, type_here, mark_is, mark_here, local_is, local_here, literal_is, literal_here, no_literal_in_name, code_is, code_here}
 
 -- ---- operands

@@ -10,8 +10,8 @@ use Rattle.first_gimple.specs.declared.draft.Line.{Line}
 use Rattle.first_gimple.specs.declared.draft.Taken.{Taken}
 use Rattle.first_gimple.specs.declared.draft.Taken.TheVariants.{Local, Initial, Literal}
 use Rattle.first_gimple.specs.Tokens.{Token}
-use Rattle.first_gimple.specs.Reading.{then_read, or_read, fixed, versions, line_at, with_first, ended, items_at, local_at, further_param_at, params_or_void, params_at, head_at, number_at, nothing_behind, end_at, signature_at, draft_at}
-use Rattle.first_gimple.specs.Spelling.{SpellsTaken, SpellsLine, SpellsLocal, SpellsFurther, SpellsItems, SpellsParams, SpellsDraft}
+use Rattle.first_gimple.specs.Reading.{then_read, or_read, fixed, line_at, with_first, ended, items_at, local_at, further_param_at, params_or_void, params_at, head_at, number_at, nothing_behind, end_at, signature_at, draft_at}
+use Rattle.first_gimple.specs.Spelling.{versions, SpellsTaken, SpellsLine, SpellsLocal, SpellsFurther, SpellsItems, SpellsParams, SpellsDraft}
 use Rattle.first_gimple.proofs.Words.{then_some, then_here, some_is, fixed_is, fixed_here, token_is, token_here, meant_is, meant_here, type_is, type_here}
 use Rattle.first_gimple.proofs.Lines.{taken_is, taken_here, line_is, line_here, local_line_is, local_line_here, param_is, param_here, further_is, further_here}
 

@@ -14,8 +14,8 @@ use Rattle.gim_ast.specs.Identifiers.{is_digit, anonymous}
 use Rattle.gim_ast.specs.Numbers.{number_below, name_below}
 use Rattle.gim_ast.proofs.NumberLemmas.{number_below_is, number_below-decimal, name_below_is, name_below-anonymous, decimal_digits}
 use Rattle.first_gimple.specs.Tokens.{Token}
-use Rattle.first_gimple.specs.Reading.{then_read, fixed, token_at, versions, is_suffix, literal_of, local_from, local_of, code_of, meant_at, type_at, mark_at}
-use Rattle.first_gimple.specs.Spelling.{operator_of}
+use Rattle.first_gimple.specs.Reading.{then_read, fixed, token_at, literal_of, local_from, local_of, code_of, meant_at, type_at, mark_at}
+use Rattle.first_gimple.specs.Spelling.{versions, is_suffix, operator_of}
 
 -- ---- steps
 

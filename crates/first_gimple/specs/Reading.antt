@@ -1,5 +1,5 @@
 -- How a text of tokens is read, line by line: each reader answers what it read and the tokens behind it, or nothing.
-use Rattle.std.specs.Prelude.{◌≡◌, ℕ, zero, suc, ◌-◌, ◌^◌, ◌==◌, Bool, ◌||◌, Option, Some, None, option_map, Result, Ok, Err, List, [], ◌∷◌, length, take, slice_index, codes, if◌then◌else◌}
+use Rattle.std.specs.Prelude.{◌≡◌, ℕ, zero, suc, ◌-◌, ◌^◌, Option, Some, None, option_map, Result, Ok, Err, List, [], ◌∷◌, length, take, slice_index, codes, if◌then◌else◌}
 use Rattle.std.specs.Str.{bytes_eq}
 use Rattle.pm_ops.specs.declared.code.Code.{Code}
 use Rattle.pm_ops.specs.declared.code.Code.TheVariants.{Plus, Minus, Mult, BitAnd, BitIor, BitXor}
@@ -11,6 +11,7 @@ use Rattle.first_gimple.specs.declared.draft.Line.{Line}
 use Rattle.first_gimple.specs.declared.draft.Taken.{Taken}
 use Rattle.first_gimple.specs.declared.draft.Taken.TheVariants.{Local, Initial, Literal}
 use Rattle.first_gimple.specs.Tokens.{Token}
+use Rattle.first_gimple.specs.Spelling.{versions, is_suffix}
 
 -- ---- what a function answers, seen by view, is what a reader gives, unless memory runs out
 
@@ -34,9 +35,6 @@ or_read (Some x) other = Some x
 
 -- ---- tokens
 
-abbrev pub versions : ℕ
-versions = 1000000000
-
 -- this token
 unfoldable pub fixed : Token → List Token → Option (List Token)
 fixed word [] = None
@@ -46,9 +44,6 @@ fixed word (token ∷ tokens) = if bytes_eq token word then Some tokens else Non
 unfoldable pub token_at : List Token → Option (Token × List Token)
 token_at [] = None
 token_at (token ∷ tokens) = Some (token, tokens)
-
-abbrev pub is_suffix : ℕ → Bool
-is_suffix b = (b == 117) || (b == 85)
 
 -- the value of a number with its suffix
 unfoldable pub literal_of : Token → Option ℕ

@@ -1,6 +1,6 @@
 -- How a function of the first form is written, one definition for each line of it. `Spells.. x tokens rest` says that the
 -- tokens are a spelling of x, and then the rest.
-use Rattle.std.specs.Prelude.{◌≡◌, ◌⊎◌, ℕ, ◌<◌, ◌^◌, IsTrue, Option, Some, None, List, [], ◌∷◌, ◌++◌, codes}
+use Rattle.std.specs.Prelude.{◌≡◌, ◌⊎◌, ℕ, ◌<◌, ◌^◌, ◌==◌, ◌||◌, Bool, IsTrue, Option, Some, None, List, [], ◌∷◌, ◌++◌, codes}
 use Rattle.std.specs.Fmt.{decimal}
 use Rattle.pm_ops.specs.declared.code.Code.{Code}
 use Rattle.pm_ops.specs.declared.code.Code.TheVariants.{Plus, Minus, Mult, BitAnd, BitIor, BitXor}
@@ -10,7 +10,14 @@ use Rattle.first_gimple.specs.declared.draft.Line.{Line}
 use Rattle.first_gimple.specs.declared.draft.Taken.{Taken}
 use Rattle.first_gimple.specs.declared.draft.Taken.TheVariants.{Local, Initial, Literal}
 use Rattle.first_gimple.specs.Tokens.{Token}
-use Rattle.first_gimple.specs.Reading.{is_suffix, versions}
+
+-- versions and block numbers are below this one
+abbrev pub versions : ℕ
+versions = 1000000000
+
+-- the suffix of a number: `u` or `U`
+abbrev pub is_suffix : ℕ → Bool
+is_suffix b = (b == 117) || (b == 85)
 
 -- `+` `-` `*` `&` `|` `^`
 abbrev pub operator_of : Code → Option Token

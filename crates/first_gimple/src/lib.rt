@@ -18,7 +18,7 @@ mod tokens;
 
 ghost use Rattle.std.specs.Prelude.{◌≡◌, IfOk, MatchResult};
 ghost use Rattle.gim_ast.specs.declared.function.Function.{Function};
-ghost use Rattle.first_gimple.specs.declared.fault.FirstFault.TheVariants.{Memory};
+ghost use Rattle.first_gimple.specs.declared.fault.FirstFault.TheVariants.{NotFirst, Memory};
 ghost use Rattle.first_gimple.specs.Meaning.{IsFirstForm, StandsFor};
 ghost use Rattle.first_gimple.specs.Rules.{KeepsRules};
 ghost use Rattle.first_gimple.specs.Tests.{Finds};
@@ -55,7 +55,7 @@ fn judged(alloc: Global, draft: &Draft) -> Result<Function, FirstFault>
     Ok(making::function(alloc, draft, names)?)
 }
 
-/// The function that a text of the first form stands for. `NotFirst` comes exactly where it stands for none.
+/// The function that a text of the first form stands for.
 pub fn read(alloc: Global, source: &[u8]) -> Result<Function, FirstFault>
     // What is read is what the text stands for.
     ensures found { IfOk result (IsFirstForm source.now) }
@@ -63,6 +63,8 @@ pub fn read(alloc: Global, source: &[u8]) -> Result<Function, FirstFault>
     ensures uniform { IfOk result IsUniform }
     // What the text stands for is read, unless memory runs out.
     ensures only { (f : Function) → IsFirstForm source.now f → MatchResult result (λ g. g ≡ f) (λ fault. fault ≡ Memory) }
+    // A text is refused only where it stands for no function.
+    ensures refused { result ≡ Err NotFirst → (f : Function) → IsFirstForm source.now f → ⊥ }
 {
     let draft = reading::draft(alloc, source)?;
     judged(alloc, &draft)
