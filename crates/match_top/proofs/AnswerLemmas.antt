@@ -1,5 +1,5 @@
 -- Want of memory before anything was read is an answer to any words.
-use Rattle.std.proofs.Common.{◌≡◌, ℕ, List, Option, Some, None, IfSome, refl, inl, inr}
+use Rattle.std.proofs.Common.{ℕ, List, Option, Some, None, IfSome, refl, inr}
 use Rattle.match_top.specs.Words.{Command, Simplify}
 use Rattle.match_top.specs.Answers.{Given, Unknown, IsAnswer, no_memory}
 use Rattle.match_top.specs.Given.{HasReason, CommandAgrees}

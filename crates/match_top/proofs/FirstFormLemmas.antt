@@ -1,10 +1,10 @@
 -- A function of the first form is typed, and its names are in order.
-use Rattle.std.proofs.Common.{◌≡◌, ◌⊎◌, ℕ, Bool, true, false, ◌&&◌, List, [], ◌∷◌, ◌++◌, map, refl, sym, subst, ap, ◌∙◌, inl, inr, ⊎_elim}
+use Rattle.std.proofs.Common.{◌≡◌, ◌⊎◌, ℕ, Bool, true, List, [], ◌∷◌, ◌++◌, map, refl, sym, ap, inl, inr, ⊎_elim}
 use Rattle.std.specs.List.{list_all, flat_map}
 use Rattle.std.specs.Prelude.{Some}
 use Rattle.pm_ops.specs.declared.code.Code.{Code}
 use Rattle.pm_ops.specs.declared.code.Code.TheVariants.{Plus, Minus, Mult, BitAnd, BitIor, BitXor}
-use Rattle.pm_wide.specs.Types.{Ty, same_type, unsigned_int_type}
+use Rattle.pm_wide.specs.Types.{same_type, unsigned_int_type}
 use Rattle.pm_wide.specs.Typing.{well_typed_operation}
 use Rattle.gim_ast.specs.declared.function.Function.{Function}
 use Rattle.gim_ast.specs.declared.function.NameRow.{NameRow}
@@ -16,7 +16,7 @@ use Rattle.first_gimple.specs.declared.draft.Draft.{Draft}
 use Rattle.first_gimple.specs.declared.draft.Line.{Line}
 use Rattle.first_gimple.specs.declared.draft.Taken.{Taken}
 use Rattle.first_gimple.specs.declared.draft.Taken.TheVariants.{Local, Initial, Literal}
-use Rattle.first_gimple.specs.Meaning.{IsFirstForm, StandsFor, AreNames, Has, made, named_rows, local_row, rows_of_taken, rows_of_line, operand_of, stmt_of, block_of}
+use Rattle.first_gimple.specs.Meaning.{IsFirstForm, AreNames, Has, made, named_rows, local_row, rows_of_taken, rows_of_line, operand_of, stmt_of, block_of}
 use Rattle.first_gimple.specs.Spelling.{SpellsItems, SpellsLine, operator_of}
 use Rattle.first_gimple.specs.Tokens.{Token}
 use Rattle.first_rewriting.specs.Typed.{IsTyped, row_agrees, operand_agrees, stmt_agrees, block_agrees}

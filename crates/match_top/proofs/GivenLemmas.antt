@@ -1,5 +1,5 @@
 -- What reading the two files one after the other gives.
-use Rattle.std.proofs.Common.{◌≡◌, ℕ, ◌≤◌, ◌<◌, List, [], Option, Some, None, Result, Ok, Err, Vec, IfSome, IsErrOf, refl, sym, subst, arith}
+use Rattle.std.proofs.Common.{◌≡◌, ℕ, ◌≤◌, List, Option, Some, None, Result, Ok, Err, Vec, IfSome, IsErrOf, refl, subst, arith}
 use Rattle.std.specs.declared.alloc.Global.{Global}
 use Rattle.pm_io.specs.Causes.{Rose}
 use Rattle.pm_io.specs.Reading.{ReadsWhole}

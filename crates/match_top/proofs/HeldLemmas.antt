@@ -8,10 +8,10 @@ use Rattle.first_patterns.specs.declared.row.Row.{Row}
 use Rattle.first_patterns.specs.Matching.{row_at}
 use Rattle.pm_io.specs.Causes.{Rose}
 use Rattle.match_top.specs.Words.{Command, Simplify}
-use Rattle.match_top.specs.Answers.{Answer, Given, Bytes, Missing, TooLong, Unread, Unknown, Stage, Reached, Ended, OrMemory, Agrees, IsAnswer, Simplifies, ReadsPatterns, ReadsFunction, ReadsNext, AfterPatterns, AfterFunction, simplified, written, no_memory, budget, patterns_limit, functions_limit}
-use Rattle.match_top.specs.Given.{HasReason, CommandAgrees, FilesAgree, FunctionsAgree}
+use Rattle.match_top.specs.Answers.{Answer, Given, Bytes, Missing, TooLong, Unread, Unknown, Stage, Reached, Ended, OrMemory, Agrees, IsAnswer, Simplifies, ReadsPatterns, ReadsFunction, ReadsNext, AfterPatterns, AfterFunction, simplified, no_memory, budget, patterns_limit, functions_limit}
+use Rattle.match_top.specs.Given.{HasReason, CommandAgrees}
 use Rattle.match_top.specs.Held.{given_of, IsHeldAnswer, GivesHeldAnswer, statuses}
-use Rattle.match_top.specs.Writing.{Sunk, Writes, WroteAll, OutFailed, ReportFailed}
+use Rattle.match_top.specs.Writing.{Sunk, Writes, WroteAll}
 
 -- ---- statuses
 

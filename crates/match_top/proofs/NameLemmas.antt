@@ -1,11 +1,10 @@
 -- The rows of `names` stay in order under the rewriting.
-use Rattle.std.proofs.Common.{◌≡◌, ℕ, zero, suc, Bool, true, false, not, ◌&&◌, ◌||◌, List, [], ◌∷◌, Option, Some, None, map, length, refl, sym, ap, ◌∙◌, ltb, cond, IsTrue, filter}
+use Rattle.std.proofs.Common.{◌≡◌, ℕ, zero, suc, Bool, true, false, ◌&&◌, ◌||◌, List, [], ◌∷◌, Option, Some, None, map, refl, ap, ◌∙◌, ltb, cond, filter}
 use Rattle.std.specs.List.{list_all}
 use Rattle.std.specs.Option.{option_map_or}
 use Rattle.pm_wide.specs.declared.operand.Operand.{Operand}
 use Rattle.gim_ast.specs.declared.function.Function.{Function}
 use Rattle.gim_ast.specs.declared.function.NameRow.{NameRow}
-use Rattle.gim_ast.specs.Functions.{operands_of}
 use Rattle.gim_ast.specs.Substitution.{put_in_all, with_rhs, with_condition}
 use Rattle.gim_ast.specs.Removal.{without, pruned_by, pruned, trimmed, tidied, last_unused, stands_in, is_empty_text}
 use Rattle.gim_ast.specs.Subjects.{Site, AtStmt, AtCond, Subject, View}

@@ -1,11 +1,11 @@
 -- What the rows of a pattern file of the first form have in common.
-use Rattle.std.proofs.Common.{◌≡◌, ℕ, ◌+◌, ◌≤◌, ◌<◌, ◌^◌, List, [], ◌∷◌, ◌++◌, length, Bool, true, false, IsTrue, refl, sym, ap, subst, ◌∙◌, arith, length-append, All}
+use Rattle.std.proofs.Common.{◌≡◌, ℕ, ◌+◌, ◌≤◌, List, [], ◌∷◌, ◌++◌, length, true, refl, ap, ◌∙◌, arith, length-append, All}
 use Rattle.std.specs.List.{list_all, AllByRecursion}
 use Rattle.std.proofs.lemmas.List.Elements.{All-from_recursion}
 use Rattle.pm_ops.specs.declared.code.Code.{Code}
 use Rattle.pm_ops.specs.declared.code.Code.TheVariants.{Plus, Minus, Mult, BitAnd, BitIor, BitXor}
 use Rattle.first_patterns.specs.declared.row.Row.{Row}
-use Rattle.first_patterns.specs.FirstForm.{SpellsRows, SpellsFile, SpellsRow, is_first_code}
+use Rattle.first_patterns.specs.FirstForm.{SpellsRows, SpellsFile, is_first_code}
 use Rattle.first_rewriting.specs.Typed.{KeepTypes, keeps_type}
 
 -- each row begins within its file

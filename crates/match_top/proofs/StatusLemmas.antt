@@ -1,14 +1,13 @@
 -- Each status has its cause in the files that the inputs hold.
-use Rattle.std.proofs.Common.{◌≡◌, ◌⊎◌, ℕ, ◌≤◌, ◌<◌, Bool, true, false, cond, List, length, Option, Some, None, IfSome, IsSomeAnd, refl, sym, ap, subst, ◌∙◌, inl, inr, ⊎_elim, arith}
+use Rattle.std.proofs.Common.{◌≡◌, ◌⊎◌, ℕ, ◌≤◌, ◌<◌, Bool, true, false, cond, List, length, Option, Some, None, IfSome, IsSomeAnd, refl, sym, ap, subst, ◌∙◌, inl, inr, arith}
 use Rattle.gim_ast.specs.declared.function.Function.{Function}
 use Rattle.gim_ast.specs.Rewriting.{rewriting_of}
 use Rattle.first_patterns.specs.declared.row.Row.{Row}
 use Rattle.first_patterns.specs.FirstForm.{SpellsFile}
 use Rattle.first_patterns.specs.Matching.{row_at}
-use Rattle.first_gimple.specs.Meaning.{IsFirstForm}
 use Rattle.pm_io.specs.Causes.{Rose}
 use Rattle.match_top.specs.Words.{Command, Simplify}
-use Rattle.match_top.specs.Answers.{Answer, Given, Bytes, Missing, TooLong, Unread, Unknown, Stage, Reached, Ended, OrMemory, Agrees, IsAnswer, Simplifies, ReadsPatterns, ReadsFunction, ReadsNext, AfterPatterns, AfterFunction, simplified, no_memory, budget, patterns_limit, functions_limit}
+use Rattle.match_top.specs.Answers.{Answer, Given, Bytes, Missing, TooLong, Unread, Unknown, Stage, Reached, Ended, OrMemory, Agrees, IsAnswer, ReadsPatterns, ReadsFunction, AfterPatterns, AfterFunction, simplified, no_memory, budget, patterns_limit, functions_limit}
 use Rattle.match_top.specs.Given.{HasReason, CommandAgrees}
 use Rattle.match_top.specs.Statuses.{IsPatterns, NotPatterns, NotFunction, IsRewritten, Says, StatusSays}
 use Rattle.match_top.specs.Writing.{Sunk, Writes}

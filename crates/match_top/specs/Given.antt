@@ -2,7 +2,7 @@
 use Rattle.std.specs.Prelude.{◌≡◌, ℕ, List, [], Option, Some, None, ⊤}
 use Rattle.pm_io.specs.Causes.{Rose}
 use Rattle.match_top.specs.Words.{Command, Simplify}
-use Rattle.match_top.specs.Answers.{Given, Bytes, Missing, TooLong, Unread, Unknown, Agrees, patterns_limit, functions_limit}
+use Rattle.match_top.specs.Answers.{Given, Bytes, Unread, Agrees, patterns_limit, functions_limit}
 
 -- a file is unread only where the inputs' count of faults rose
 abbrev pub HasReason : ℕ → ℕ → Given → Type 0

@@ -1,5 +1,5 @@
 -- The answer to the words, by the files that the inputs hold alone.
-use Rattle.std.specs.Prelude.{◌≡◌, ℕ, ◌≤◌, nat_le, Bool, if◌then◌else◌, List, [], ◌∷◌, length, Option, Some, None}
+use Rattle.std.specs.Prelude.{ℕ, nat_le, if◌then◌else◌, List, [], ◌∷◌, length, Option, Some, None}
 use Rattle.match_top.specs.Words.{Command, Simplify}
 use Rattle.match_top.specs.Answers.{Answer, Given, Bytes, Missing, TooLong, Unknown, IsAnswer, patterns_limit, functions_limit}
 use Rattle.match_top.specs.Writing.{Sunk, WroteAll}

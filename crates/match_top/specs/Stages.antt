@@ -1,5 +1,5 @@
 -- What contracts see of the program's own answers and stops.
-use Rattle.std.specs.Prelude.{◌≡◌, ◌⊎◌, List, [], Result, Ok, Err, Vec}
+use Rattle.std.specs.Prelude.{[], Result, Ok, Err, Vec}
 use Rattle.std.specs.declared.alloc.Global.{Global}
 use Rattle.pm_io.specs.declared.faults.ReadFault.{ReadFault}
 use Rattle.pm_io.specs.declared.faults.ReadFault.TheVariants as faults

@@ -1,5 +1,5 @@
 -- A refused file has no function.
-use Rattle.std.proofs.Common.{◌≡◌, List, ℕ, subst, inl, inr, ⊎_elim}
+use Rattle.std.proofs.Common.{List, ℕ, subst, inl, inr, ⊎_elim}
 use Rattle.gim_ast.specs.declared.function.Function.{Function}
 use Rattle.first_gimple.specs.Meaning.{IsFirstForm}
 use Rattle.match_top.proofs.FirstFormLemmas.{refused_is_none}
