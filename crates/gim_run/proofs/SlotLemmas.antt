@@ -14,7 +14,7 @@ use Rattle.pm_wide.specs.Typing.{well_typed_operation}
 use Rattle.pm_wide.specs.Operations.{operation_value}
 use Rattle.pm_wide.specs.declared.operand.Operand.{Operand}
 use Rattle.pm_wide.specs.declared.operand.Operand.TheVariants.{Name, Const}
-use Rattle.pm_wide.proofs.Results.{same_type_is, operation_type}
+use Rattle.pm_wide.proofs.Results.{same_type_is, operation_word}
 use Rattle.gim_ast.specs.declared.function.Function.{Function}
 use Rattle.gim_ast.specs.declared.function.NameRow.{NameRow}
 use Rattle.gim_ast.specs.declared.function.Stmt.{Stmt}
@@ -182,7 +182,7 @@ right_type f words ty (Copy a) w h known fits is =
     let same : word_of_operand (env_of f.names words) a ≡ w = cc in
     ap (λ (v : Word). v.ty) (sym same) ∙ type_at_operand f words a h (and_first (operand_holds f a) true known) ∙ same_type_is (type_of a) ty fits
 right_type f words ty (Op code operands) w h known fits is =
-    operation_type code ty (map (word_of_operand (env_of f.names words)) operands) w (words_typed f words code ty operands h known fits) is
+    (operation_word code ty (map (word_of_operand (env_of f.names words)) operands) w (words_typed f words code ty operands h known fits) is).0
 
 pub each_holds : {X : Type 0} (p : X → Bool) (xs : List X) (i : ℕ) (d : X) → list_all p xs ≡ true → i < length xs → p (get_or xs i d) ≡ true
 each_holds p [] i d h within = absurd (omega arith)
