@@ -10,7 +10,7 @@ use Rattle.pm_io.specs.Causes.{Rose}
 use Rattle.match_top.specs.Words.{Command, Simplify}
 use Rattle.match_top.specs.Answers.{Answer, Given, Bytes, Missing, TooLong, Unread, Unknown, Stage, Reached, Ended, OrMemory, Agrees, IsAnswer, Simplifies, ReadsPatterns, ReadsFunction, ReadsNext, AfterPatterns, AfterFunction, simplified, no_memory, budget, patterns_limit, functions_limit}
 use Rattle.match_top.specs.Given.{HasReason, CommandAgrees}
-use Rattle.match_top.specs.Held.{given_of, IsHeldAnswer, GivesHeldAnswer, statuses}
+use Rattle.match_top.specs.Held.{given_of, IsHeldAnswer, GivesHeldAnswer, statuses, IsStatus}
 use Rattle.match_top.specs.Writing.{Sunk, Writes, WroteAll}
 
 -- ---- statuses
@@ -102,6 +102,15 @@ six_has_cause command p g answer out report status h writes six = six_only answe
 -- no other number is answered
 in_all : (n : ℕ) → is_work_status n ≡ true → list_any (λ m. m == n) statuses ≡ true
 in_all n h = grind (arith, h)
+
+known_status : (n : ℕ) → is_work_status n ≡ true ⊎ (n ≡ 2) → IsStatus n
+known_status n (inl work) = in_all n work
+known_status n (inr two) = subst IsStatus (sym two) refl
+
+pub only_these : (command : Option Command) (p g : Given) (answer : Answer) (out report : Sunk) (status : ℕ) → IsAnswer command p g answer → Writes answer out report status → IsStatus status
+only_these command p g answer out report status h (inl whole) = subst IsStatus (sym whole.status_is) (known_status answer.status (answer_status command p g answer h))
+only_these command p g answer out report status h (inr (inl failed)) = subst IsStatus (sym failed.status_is) refl
+only_these command p g answer out report status h (inr (inr failed)) = subst IsStatus (sym failed.status_is) refl
 
 -- ---- where nothing failed
 

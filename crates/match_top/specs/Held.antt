@@ -1,5 +1,6 @@
 -- The answer to the words, by the files that the inputs hold alone.
-use Rattle.std.specs.Prelude.{ℕ, nat_le, if◌then◌else◌, List, [], ◌∷◌, length, Option, Some, None}
+use Rattle.std.specs.Prelude.{◌≡◌, ℕ, ◌==◌, nat_le, true, if◌then◌else◌, List, [], ◌∷◌, length, Option, Some, None}
+use Rattle.std.specs.List.{list_any}
 use Rattle.match_top.specs.Words.{Command, Simplify}
 use Rattle.match_top.specs.Answers.{Answer, Given, Bytes, Missing, TooLong, Unknown, IsAnswer, patterns_limit, functions_limit}
 use Rattle.match_top.specs.Writing.{Sunk, WroteAll}
@@ -24,3 +25,6 @@ pub record GivesHeldAnswer (held : List ℕ → Option (List ℕ)) (command : Op
 -- the numbers that the program ends with
 abbrev pub statuses : List ℕ
 statuses = 0 ∷ 2 ∷ 3 ∷ 4 ∷ 5 ∷ 6 ∷ 7 ∷ 8 ∷ []
+
+abbrev pub IsStatus : ℕ → Type 0
+IsStatus status = list_any (λ number. number == status) statuses ≡ true

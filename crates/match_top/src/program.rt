@@ -4,7 +4,7 @@ ghost use Rattle.pm_io.specs.Causes.{Rose};
 ghost use Rattle.match_top.specs.Answers as answers;
 ghost use Rattle.match_top.specs.Answers.{Given, IsAnswer};
 ghost use Rattle.match_top.specs.Given.{HasReason, CommandAgrees};
-ghost use Rattle.match_top.specs.Held.{GivesHeldAnswer};
+ghost use Rattle.match_top.specs.Held.{GivesHeldAnswer, IsStatus};
 ghost use Rattle.match_top.specs.Statuses.{StatusSays};
 ghost use Rattle.match_top.specs.Words.{command_of};
 ghost use Rattle.match_top.specs.Settings.{spelled};
@@ -49,6 +49,9 @@ pub fn run<I: Inputs, O: Sink, E: Sink>(
     // 2 comes only where the words have no command, and 6 only where a sink's count of faults rose.
     ensures two { result ≡ 2 → command_of (map string_bytes words.now) ≡ None }
     ensures six { result ≡ 6 → Rose (O.faults out.old) (O.faults out.new) ⊎ Rose (E.faults report.old) (E.faults report.new) }
+
+    // No other number is answered.
+    ensures numbers { IsStatus result }
 
     // Words without a command leave the inputs as they were.
     ensures untouched { command_of (map string_bytes words.now) ≡ None → inputs.new ≡ inputs.old }

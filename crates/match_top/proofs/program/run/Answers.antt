@@ -1,5 +1,5 @@
 -- What the status says, by the answer that was written.
-use Rattle.match_top.proofs.HeldLemmas.{two_only, six_has_cause, gives_held}
+use Rattle.match_top.proofs.HeldLemmas.{two_only, six_has_cause, only_these, gives_held}
 use Rattle.match_top.proofs.StatusLemmas.{status_says}
 use Rattle.match_top.proofs.program.run.Goals as goal
 
@@ -12,6 +12,11 @@ pub returns-clause-six : goal.returns-clause-six
 returns-clause-six g c =
     let e = c.serve.ensures.answer in
     six_has_cause _ e.0 e.1 e.2 _ _ _ e.3 e.4
+
+pub returns-clause-numbers : goal.returns-clause-numbers
+returns-clause-numbers g c =
+    let e = c.serve.ensures.answer in
+    only_these _ e.0 e.1 e.2 _ _ _ e.3 e.4
 
 pub returns-clause-held : goal.returns-clause-held
 returns-clause-held g c =
