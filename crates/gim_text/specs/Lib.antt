@@ -1,0 +1,3 @@
+pub mod Literals
+pub mod Meanings
+pub mod Texts

@@ -1,0 +1,16 @@
+//! GIMPLE text between its bytes and its functions: tokens with their places, and trees of what is written.
+//!
+//! The tokens are what the lexer gives (`token`), the trees what the grammar makes of them (`tree`). Both keep
+//! places in the source, never bytes.
+#![tactic(auto)]
+
+mod meaning;
+mod token;
+mod tree;
+
+pub use meaning::{block_word, identifier, keyword, mark, number, type_word};
+pub use token::{Keyword, Mark, NumberKind, Span, Token, TypeWord};
+pub use tree::{
+    ArgText, BlockText, DeclText, EndText, FunctionText, ItemText, LiteralText, LiteralType,
+    OperandText, RightForm, RightText,
+};
