@@ -1,3 +1,4 @@
+pub mod Faults
 pub mod Literals
 pub mod Meanings
 pub mod Texts

@@ -4,10 +4,12 @@
 //! places in the source, never bytes.
 #![tactic(auto)]
 
+mod fault;
 mod meaning;
 mod token;
 mod tree;
 
+pub use fault::{GimpleFault, GimpleKind, Part, TokenFault, TokenStop};
 pub use meaning::{block_word, identifier, keyword, mark, number, type_word};
 pub use token::{Keyword, Mark, NumberKind, Span, Token, TypeWord};
 pub use tree::{
