@@ -1,4 +1,5 @@
 pub mod HoldLemmas
 pub mod PhiLemmas
 pub mod SlotLemmas
+pub mod StartLemmas
 pub mod StepLemmas

@@ -1,3 +1,5 @@
 pub mod Blocks
+pub mod Machines
+pub mod Places
 pub mod Slots
 pub mod Ways
