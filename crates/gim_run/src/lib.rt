@@ -11,3 +11,6 @@ mod steps;
 
 pub use machine::{Machine, prepare};
 pub use runs::Outcome;
+
+#[cfg(test)]
+mod tests;

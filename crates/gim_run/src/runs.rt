@@ -12,7 +12,7 @@ use gim_ast::Block;
 use pm_wide::Wide;
 
 /// How a run ended, or that it hasn't.
-#[derive(Clone, Copy)]
+#[derive(Clone, Copy, Debug, PartialEq, Eq)]
 pub enum Outcome {
     /// The word that was returned.
     Returned(Wide),
