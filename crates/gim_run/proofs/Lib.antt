@@ -1,4 +1,6 @@
 pub mod HoldLemmas
 pub mod PhiLemmas
+pub mod SampleLemmas
 pub mod SlotLemmas
+pub mod StartLemmas
 pub mod StepLemmas

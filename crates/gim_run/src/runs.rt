@@ -6,12 +6,13 @@ ghost use Rattle.gim_run.specs.Blocks.{block_holds, has_room};
 ghost use Rattle.gim_run.specs.Slots.{env_of, AreSlots};
 ghost use Rattle.gim_run.specs.Ways as ways;
 
-use crate::steps::{Way, block_place, leave, pass_block};
-use gim_ast::{Block, Function};
+use crate::indexed::Indexed;
+use crate::steps::{Way, leave, pass_block};
+use gim_ast::Block;
 use pm_wide::Wide;
 
 /// How a run ended, or that it hasn't.
-#[derive(Clone, Copy)]
+#[derive(Clone, Copy, Debug, PartialEq, Eq)]
 pub enum Outcome {
     /// The word that was returned.
     Returned(Wide),
@@ -30,7 +31,7 @@ pub(crate) enum Step {
 /// Passes a block that is entered from the block of the number `from`.
 #[tactic(auto, using(crate::proofs::StepLemmas::block_end_known, crate::proofs::StepLemmas::block_end_fits))]
 fn inside(
-    function: &Function,
+    function: &Indexed,
     slots: &mut [Wide],
     scratch: &mut [(u32, Wide)],
     from: u32,
@@ -60,7 +61,7 @@ fn inside(
 /// Passes the block of the number `to`. Without such a block it stays where it is.
 #[tactic(auto, using(crate::proofs::StepLemmas::step_inside, crate::proofs::StepLemmas::step_nowhere, crate::proofs::StepLemmas::got_holds, crate::proofs::StepLemmas::room_for))]
 fn advance(
-    function: &Function,
+    function: &Indexed,
     slots: &mut [Wide],
     scratch: &mut [(u32, Wide)],
     from: u32,
@@ -74,9 +75,10 @@ fn advance(
     ensures slots { AreSlots function.now slots.new }
     ensures room { length scratch.new ≡ length scratch.old }
 {
-    let at = block_place(function.blocks.as_slice(), to);
-    if at < function.blocks.len() {
-        inside(function, slots, scratch, from, to, function.blocks.at(at))
+    let blocks = &function.function().blocks;
+    let at = function.block_place(to);
+    if at < blocks.len() {
+        inside(function, slots, scratch, from, to, blocks.at(at))
     } else {
         Step::Further { from, to }
     }
@@ -85,7 +87,7 @@ fn advance(
 /// Goes on from the block of a number, until the run ends or as many blocks are entered as `fuel` says.
 #[tactic(auto, using(crate::proofs::StepLemmas::run_on, crate::proofs::StepLemmas::run_out, crate::proofs::StepLemmas::run_ended))]
 pub(crate) fn go(
-    function: &Function,
+    function: &Indexed,
     slots: &mut [Wide],
     scratch: &mut [(u32, Wide)],
     entry: u32,
@@ -118,7 +120,7 @@ pub(crate) fn go(
 /// Goes on from the entry of a well-formed function, whose slots are as they are to be at the start.
 #[tactic(auto, using(crate::proofs::HoldLemmas::blocks_hold))]
 pub(crate) fn from_entry(
-    function: &Function,
+    function: &Indexed,
     slots: &mut [Wide],
     scratch: &mut [(u32, Wide)],
     fuel: u32,
@@ -130,7 +132,7 @@ pub(crate) fn from_entry(
     ensures slots { AreSlots function.now slots.new }
     ensures room { length scratch.new ≡ length scratch.old }
 {
-    let entry = match function.blocks.as_slice() {
+    let entry = match function.function().blocks.as_slice() {
         [first, ..] => first.number,
         [] => 0,
     };

@@ -3,20 +3,8 @@ ghost use Rattle.pm_wide.specs.Types.{bool_type};
 ghost use Rattle.gim_ast.specs.Runs.{assign, name_type, word_of_operand, zero_of};
 ghost use Rattle.gim_run.specs.Slots.{place_of, env_of, AreSlots};
 
-use gim_ast::{Function, NameRow};
+use crate::indexed::Indexed;
 use pm_wide::{IntType, Operand, Wide};
-
-/// The place of the first row of a version, or the number of rows.
-pub(crate) fn place(names: &[NameRow], version: u32) -> usize
-    ensures { result ≡ place_of names.now version }
-{
-    for at in 0..names.len() {
-        if names[at].version == version {
-            return at;
-        }
-    }
-    names.len()
-}
 
 /// The word of a slot, and the `_Bool` 0 where there is none.
 fn slot(slots: &[Wide], at: usize) -> Wide
@@ -31,24 +19,25 @@ fn slot(slots: &[Wide], at: usize) -> Wide
 
 /// The word of an operand.
 #[tactic(auto, using(crate::proofs::SlotLemmas::read_word))]
-pub(crate) fn word(function: &Function, slots: &[Wide], operand: Operand) -> Wide
+pub(crate) fn word(function: &Indexed, slots: &[Wide], operand: Operand) -> Wide
     requires { AreSlots function.now slots.now }
     ensures { result ≡ word_of_operand (env_of function.now.names slots.now) operand }
 {
     match operand {
-        Operand::Name(version, _) => slot(slots, place(function.names.as_slice(), version)),
+        Operand::Name(version, _) => slot(slots, function.row_place(version)),
         Operand::Const(word) => word,
     }
 }
 
 /// The type of a name, and `_Bool` where there is no row.
 #[tactic(auto, using(crate::proofs::SlotLemmas::known_type, crate::proofs::SlotLemmas::type_without_row))]
-pub(crate) fn type_of_name(function: &Function, name: u32) -> IntType
+pub(crate) fn type_of_name(function: &Indexed, name: u32) -> IntType
     ensures { result ≡ name_type function.now name }
 {
-    let at = place(function.names.as_slice(), name);
-    if at < function.names.len() {
-        function.names.at(at).ty
+    let names = &function.function().names;
+    let at = function.row_place(name);
+    if at < names.len() {
+        names.at(at).ty
     } else {
         IntType::boolean()
     }
@@ -56,12 +45,12 @@ pub(crate) fn type_of_name(function: &Function, name: u32) -> IntType
 
 /// Writes the word of a name.
 #[tactic(auto, using(crate::proofs::SlotLemmas::slot_count, crate::proofs::SlotLemmas::write_slot, crate::proofs::SlotLemmas::still_slots))]
-pub(crate) fn put(function: &Function, slots: &mut [Wide], name: u32, word: Wide)
+pub(crate) fn put(function: &Indexed, slots: &mut [Wide], name: u32, word: Wide)
     requires slots { AreSlots function.now slots.old }
     requires row { place_of function.now.names name < length function.now.names }
     requires typed { word.ty ≡ name_type function.now name }
     ensures words { env_of function.now.names slots.new ≡ assign name word (env_of function.now.names slots.old) }
     ensures slots { AreSlots function.now slots.new }
 {
-    slots[place(function.names.as_slice(), name)] = word;
+    slots[function.row_place(name)] = word;
 }

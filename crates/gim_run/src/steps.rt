@@ -10,17 +10,18 @@ ghost use Rattle.gim_ast.specs.WellFormed.{end_fits, operand_holds, rhs_fits, ty
 ghost use Rattle.gim_ast.specs.Runs.{assign_each, holds, lead_of, pass_block, phi_word, word_of_operand, rhs_value, pass_stmts, Stuck};
 ghost use Rattle.gim_run.specs.Slots.{env_of, AreSlots, stmt_holds, passage_of};
 ghost use Rattle.gim_run.specs.Ways.{lead_of_way};
-ghost use Rattle.gim_run.specs.Blocks.{block_holds, pair_fits, phi_pair, place_of_block};
+ghost use Rattle.gim_run.specs.Blocks.{block_holds, pair_fits, phi_pair};
 
+use crate::indexed::Indexed;
 use crate::slots;
-use gim_ast::{Block, End, Function, Phi, Rhs, Stmt};
+use gim_ast::{Block, End, Phi, Rhs, Stmt};
 use pm_ops::Code;
 use pm_wide::{IntType, Operand, Undefined, Wide, op_value};
 
 /// The value of an operation on operands.
 #[tactic(auto, unfolding(pm_wide::specs::Operations::operation_value, pm_wide::specs::Typing::well_typed_operation))]
 fn operation(
-    function: &Function,
+    function: &Indexed,
     slots: &[Wide],
     code: Code,
     ty: IntType,
@@ -40,7 +41,7 @@ fn operation(
 }
 
 fn one(
-    function: &Function,
+    function: &Indexed,
     slots: &[Wide],
     code: Code,
     ty: IntType,
@@ -55,7 +56,7 @@ fn one(
 }
 
 fn two(
-    function: &Function,
+    function: &Indexed,
     slots: &[Wide],
     code: Code,
     ty: IntType,
@@ -73,7 +74,7 @@ fn two(
 }
 
 fn three(
-    function: &Function,
+    function: &Indexed,
     slots: &[Wide],
     code: Code,
     ty: IntType,
@@ -93,7 +94,7 @@ fn three(
 }
 
 /// The value of a right side.
-fn right(function: &Function, slots: &[Wide], ty: IntType, rhs: &Rhs) -> Result<Wide, Undefined>
+fn right(function: &Indexed, slots: &[Wide], ty: IntType, rhs: &Rhs) -> Result<Wide, Undefined>
     requires slots { AreSlots function.now slots.now }
     requires known { IsTrue (list_all (operand_holds function.now) (operands_of_rhs rhs.now)) }
     requires typed { IsTrue (rhs_fits ty rhs.now) }
@@ -106,7 +107,7 @@ fn right(function: &Function, slots: &[Wide], ty: IntType, rhs: &Rhs) -> Result<
 }
 
 /// Carries a statement out.
-fn pass_one(function: &Function, slots: &mut [Wide], stmt: &Stmt) -> Result<(), Undefined>
+fn pass_one(function: &Indexed, slots: &mut [Wide], stmt: &Stmt) -> Result<(), Undefined>
     requires slots { AreSlots function.now slots.old }
     requires holds { IsTrue (stmt_holds function.now stmt.now) }
     ensures on { OnOk result ((rest : List Stmt) → pass_stmts function.now (stmt.now ∷ rest) (env_of function.now.names slots.old)
@@ -123,7 +124,7 @@ fn pass_one(function: &Function, slots: &mut [Wide], stmt: &Stmt) -> Result<(), 
 
 /// Carries statements out, and tells the first that has no value.
 #[tactic(auto, using(std::proofs::lemmas::List::at_drop_more, crate::proofs::SlotLemmas::each_holds))]
-pub(crate) fn pass(function: &Function, slots: &mut [Wide], stmts: &[Stmt]) -> Option<u32>
+pub(crate) fn pass(function: &Indexed, slots: &mut [Wide], stmts: &[Stmt]) -> Option<u32>
     requires slots { AreSlots function.now slots.old }
     requires hold { IsTrue (list_all (stmt_holds function.now) stmts.now) }
     ensures passage { pass_stmts function.now stmts.now (env_of function.now.names slots.old) ≡ passage_of result (env_of function.now.names slots.new) }
@@ -139,7 +140,7 @@ pub(crate) fn pass(function: &Function, slots: &mut [Wide], stmts: &[Stmt]) -> O
 }
 
 /// Whether a comparison holds.
-fn compares(function: &Function, slots: &[Wide], code: Code, left: Operand, right: Operand) -> bool
+fn compares(function: &Indexed, slots: &[Wide], code: Code, left: Operand, right: Operand) -> bool
     requires slots { AreSlots function.now slots.now }
     requires known { IsTrue (list_all (operand_holds function.now) (left ∷ right ∷ [])) }
     requires typed { IsTrue (well_typed_operation code bool_type (map type_of (left ∷ right ∷ []))) }
@@ -159,7 +160,7 @@ pub(crate) enum Way {
 
 /// Follows an end.
 #[tactic(auto, using(crate::proofs::SlotLemmas::comparison_typed))]
-pub(crate) fn leave(function: &Function, slots: &[Wide], end: End) -> Way
+pub(crate) fn leave(function: &Indexed, slots: &[Wide], end: End) -> Way
     requires slots { AreSlots function.now slots.now }
     requires known { IsTrue (list_all (operand_holds function.now) (operands_of_end end)) }
     requires fits { IsTrue (end_fits function.now end) }
@@ -180,7 +181,7 @@ pub(crate) fn leave(function: &Function, slots: &[Wide], end: End) -> Way
 
 /// What a phi reads where the block of the number `from` was left.
 #[tactic(auto, using(std::proofs::lemmas::List::at_drop_more))]
-fn phi(function: &Function, slots: &[Wide], from: u32, phi: &Phi) -> Wide
+fn phi(function: &Indexed, slots: &[Wide], from: u32, phi: &Phi) -> Wide
     requires slots { AreSlots function.now slots.now }
     ensures { result ≡ phi_word function.now from (env_of function.now.names slots.now) phi.now }
 {
@@ -196,7 +197,7 @@ fn phi(function: &Function, slots: &[Wide], from: u32, phi: &Phi) -> Wide
 /// Reads phis, each with its name into its place of the scratch room.
 #[tactic(auto, using(std::proofs::lemmas::List::at_drop_more))]
 fn read_phis(
-    function: &Function,
+    function: &Indexed,
     slots: &[Wide],
     scratch: &mut [(u32, Wide)],
     from: u32,
@@ -214,7 +215,7 @@ fn read_phis(
 
 /// Writes what phis have read.
 #[tactic(auto, using(std::proofs::lemmas::List::at_drop_more, crate::proofs::SlotLemmas::each_holds, crate::proofs::PhiLemmas::pair_within, crate::proofs::PhiLemmas::pair_typed))]
-fn write_phis(function: &Function, slots: &mut [Wide], read: &[(u32, Wide)])
+fn write_phis(function: &Indexed, slots: &mut [Wide], read: &[(u32, Wide)])
     requires slots { AreSlots function.now slots.old }
     requires fit { IsTrue (list_all (pair_fits function.now) read.now) }
     ensures words { assign_each read.now (env_of function.now.names slots.old) ≡ env_of function.now.names slots.new }
@@ -229,7 +230,7 @@ fn write_phis(function: &Function, slots: &mut [Wide], read: &[(u32, Wide)])
 /// statement that has no value.
 #[tactic(auto, using(crate::proofs::PhiLemmas::phis_fit, crate::proofs::PhiLemmas::block_stmts, crate::proofs::PhiLemmas::block_phis), unfolding(gim_ast::specs::Runs::pass_block))]
 pub(crate) fn pass_block(
-    function: &Function,
+    function: &Indexed,
     slots: &mut [Wide],
     scratch: &mut [(u32, Wide)],
     from: u32,
@@ -246,16 +247,4 @@ pub(crate) fn pass_block(
     read_phis(function, slots, scratch, from, phis);
     write_phis(function, slots, &scratch[..phis.len()]);
     pass(function, slots, block.stmts.as_slice())
-}
-
-/// The place of the first block of a number, or the number of blocks.
-pub(crate) fn block_place(blocks: &[Block], number: u32) -> usize
-    ensures { result ≡ place_of_block blocks.now number }
-{
-    for at in 0..blocks.len() {
-        if blocks[at].number == number {
-            return at;
-        }
-    }
-    blocks.len()
 }

@@ -6,10 +6,14 @@ use Rattle.gim_run.proofs.StepLemmas.{step_inside, step_nowhere, got_holds, room
 use Rattle.gim_run.proofs.runs.advance.Goals as goal
 
 pub inside-requires-clause-holds : goal.inside-requires-clause-holds
-inside-requires-clause-holds c = got_holds (block_holds c.args.function.now) c.args.function.now.blocks c.block_place-at.result c.at.result.now c.requires.hold c.at.ensures.item
+inside-requires-clause-holds c =
+    let found : slice_get c.args.function.now.blocks c.block_place-at.result ≡ Some c.at.result.now = cc in
+    got_holds (block_holds c.args.function.now) c.args.function.now.blocks c.block_place-at.result c.at.result.now c.requires.hold found
 
 pub inside-requires-clause-room : goal.inside-requires-clause-room
-inside-requires-clause-room c = room_for (length c.args.scratch.now) c.at.result.now (got_holds (has_room (length c.args.scratch.now)) c.args.function.now.blocks c.block_place-at.result c.at.result.now c.requires.room c.at.ensures.item)
+inside-requires-clause-room c =
+    let found : slice_get c.args.function.now.blocks c.block_place-at.result ≡ Some c.at.result.now = cc in
+    room_for (length c.args.scratch.now) c.at.result.now (got_holds (has_room (length c.args.scratch.now)) c.args.function.now.blocks c.block_place-at.result c.at.result.now c.requires.room found)
 
 pub returns-then-at-len-clause-step : goal.returns-then-at-len-clause-step
 returns-then-at-len-clause-step c =
