@@ -15,8 +15,8 @@ mod rhs;
 mod statements;
 
 use gim_ast::Function;
-pub use names::push_name;
-pub use numbers::push_number;
+pub use names::{push_assigned, push_name};
+pub use numbers::{push_number, push_value};
 use pm_items::Items;
 use pm_ops::OutOfMemory;
 use std::alloc::Global;

@@ -7,17 +7,20 @@ use Rattle.gim_ast.specs.Rewriting.{rewriting_of}
 use Rattle.first_patterns.specs.declared.row.Row.{Row}
 use Rattle.first_patterns.specs.Matching.{row_at}
 use Rattle.pm_io.specs.Causes.{Rose}
-use Rattle.match_top.specs.Words.{Command, Simplify}
-use Rattle.match_top.specs.Answers.{Answer, Given, Bytes, Missing, TooLong, Unread, Unknown, Stage, Reached, Ended, OrMemory, Agrees, IsAnswer, Simplifies, ReadsPatterns, ReadsFunction, ReadsNext, AfterPatterns, AfterFunction, simplified, no_memory, budget, patterns_limit, functions_limit}
+use Rattle.match_top.specs.Words.{Command, Simplify, Check, Run}
+use Rattle.match_top.specs.Answers.{Answer, Given, Bytes, Missing, TooLong, Unread, Unknown, Stage, Reached, Ended, OrMemory, Agrees, Simplifies, ReadsPatterns, ReadsFunction, ReadsNext, AfterPatterns, AfterFunction, simplified, no_memory, budget, patterns_limit, functions_limit}
+use Rattle.match_top.specs.Commands.{checked, ran}
 use Rattle.match_top.specs.Given.{HasReason, CommandAgrees}
+use Rattle.match_top.specs.Program.{IsAnswer, ReadsFunctions, AfterFile, WorksOn}
+use Rattle.match_top.proofs.FileLemmas.{is_done_status, checked_ends, ran_ends, unknown_is_memory}
 use Rattle.match_top.specs.Held.{given_of, IsHeldAnswer, GivesHeldAnswer, statuses, IsStatus}
 use Rattle.match_top.specs.Writing.{Sunk, Writes, WroteAll}
 
 -- ---- statuses
 
--- the statuses of `simplify`, but for a failed write
+-- the statuses of commands, but for a failed write
 abbrev is_work_status : ℕ → Bool
-is_work_status status = list_any (λ n. n == status) (0 ∷ 3 ∷ 4 ∷ 5 ∷ 7 ∷ 8 ∷ [])
+is_work_status status = list_any (λ n. n == status) (0 ∷ 3 ∷ 4 ∷ 5 ∷ 7 ∷ 8 ∷ 9 ∷ 10 ∷ 11 ∷ [])
 
 at_most : (wanted answer : Answer) → is_work_status wanted.status ≡ true → OrMemory wanted answer → is_work_status answer.status ≡ true
 at_most wanted answer h (inl e) = ap (λ (a : Answer). is_work_status a.status) e ∙ h
@@ -61,12 +64,35 @@ command_status : (patterns functions : List ℕ) (p g : Given) (answer : Answer)
 command_status patterns functions p g answer (inl h) = work_status patterns functions p g answer h.stage h.reads h.after
 command_status patterns functions p g answer (inr e) = ap (λ (a : Answer). is_work_status a.status) e
 
+done_works : (n : ℕ) → is_done_status n ≡ true → is_work_status n ≡ true
+done_works n h = grind (arith, h)
+
+refused_file : (name : List ℕ) (given : Given) (answer : Answer) → ReadsFunctions name given (Ended answer) → is_work_status answer.status ≡ true
+refused_file name (Bytes source) answer (inl r) = ap (λ (a : Answer). is_work_status a.status) r.answered
+refused_file name (Bytes source) answer (inr e) = ap (λ (a : Answer). is_work_status a.status) e
+refused_file name TooLong answer h = at_most _ answer refl h
+refused_file name Missing answer h = at_most _ answer refl h
+refused_file name Unread answer h = at_most _ answer refl h
+refused_file name Unknown answer e = ap (λ (a : Answer). is_work_status a.status) e
+
+after_file_status : (name : List ℕ) (given : Given) (work : List Function → Answer) (answer : Answer) (stage : Stage (List Function)) → ((fs : List Function) → is_done_status (work fs).status ≡ true)
+    → ReadsFunctions name given stage → AfterFile work stage answer → is_work_status answer.status ≡ true
+after_file_status name given work answer (Ended refused) ends reads e = ap (λ (a : Answer). is_work_status a.status) e ∙ refused_file name given refused reads
+after_file_status name given work answer (Reached fs) ends reads h = at_most (work fs) answer (done_works (work fs).status (ends fs)) h
+
+file_status : (name : List ℕ) (given : Given) (work : List Function → Answer) (answer : Answer) → ((fs : List Function) → is_done_status (work fs).status ≡ true)
+    → WorksOn name given work answer ⊎ (answer ≡ no_memory) → is_work_status answer.status ≡ true
+file_status name given work answer ends (inl h) = after_file_status name given work answer h.stage ends h.reads h.after
+file_status name given work answer ends (inr e) = ap (λ (a : Answer). is_work_status a.status) e
+
+no_two : (answer : Answer) → is_work_status answer.status ≡ true → answer.status ≡ 2 → ⊥
+no_two answer work two = let none : is_work_status answer.status ≡ false = ap is_work_status two in cc
+
 two_of : (command : Option Command) (p g : Given) (answer : Answer) → IsAnswer command p g answer → answer.status ≡ 2 → command ≡ None
 two_of None p g answer h two = refl
-two_of (Some (Simplify patterns functions)) p g answer h two =
-    let work : is_work_status answer.status ≡ true = command_status patterns functions p g answer h in
-    let none : is_work_status answer.status ≡ false = ap is_work_status two in
-    cc
+two_of (Some (Simplify patterns functions)) p g answer h two = absurd (no_two answer (command_status patterns functions p g answer h) two)
+two_of (Some (Check functions)) p g answer h two = absurd (no_two answer (file_status functions g checked answer checked_ends h) two)
+two_of (Some (Run functions name values fuel)) p g answer h two = absurd (no_two answer (file_status functions g (ran name values fuel) answer (ran_ends name values fuel) h) two)
 
 -- 2 comes only where the words have no command
 pub two_only : (command : Option Command) (p g : Given) (answer : Answer) (out report : Sunk) (status : ℕ) → IsAnswer command p g answer → Writes answer out report status → status ≡ 2 → command ≡ None
@@ -94,6 +120,8 @@ answer_status : (command : Option Command) (p g : Given) (answer : Answer) → I
 answer_status None p g answer (inl e) = inr (ap (λ (a : Answer). a.status) e)
 answer_status None p g answer (inr e) = inl (ap (λ (a : Answer). is_work_status a.status) e)
 answer_status (Some (Simplify patterns functions)) p g answer h = inl (command_status patterns functions p g answer h)
+answer_status (Some (Check functions)) p g answer h = inl (file_status functions g checked answer checked_ends h)
+answer_status (Some (Run functions name values fuel)) p g answer h = inl (file_status functions g (ran name values fuel) answer (ran_ends name values fuel) h)
 
 pub six_has_cause : (command : Option Command) (p g : Given) (answer : Answer) (out report : Sunk) (status : ℕ) → IsAnswer command p g answer → Writes answer out report status → status ≡ 6
     → Rose out.faults_old out.faults_new ⊎ Rose report.faults_old report.faults_new
@@ -163,6 +191,15 @@ module _ (patterns functions : List ℕ) (answer : Answer) where
   patterns_held holds Unread g h agrees read = absurd (read refl)
   patterns_held holds Unknown g h agrees read = inr (stopped_by_memory g h.stage h.reads h.after)
 
+file_held : (name : List ℕ) (work : List Function → Answer) (answer : Answer) (holds : Option (List ℕ)) (g : Given) → WorksOn name g work answer ⊎ (answer ≡ no_memory)
+    → Agrees holds functions_limit g → (g ≡ Unread → ⊥) → WorksOn name (given_of functions_limit holds) work answer ⊎ (answer ≡ no_memory)
+file_held name work answer holds g (inr e) agrees read = inr e
+file_held name work answer holds (Bytes bytes) (inl h) agrees read = inl (subst (λ k. WorksOn name k work answer) (sym (given_bytes functions_limit holds bytes agrees.0 agrees.1)) h)
+file_held name work answer holds Missing (inl h) agrees read = inl (subst (λ k. WorksOn name k work answer) (sym (given_missing functions_limit holds agrees)) h)
+file_held name work answer holds TooLong (inl h) agrees read = inl (subst (λ k. WorksOn name k work answer) (sym (given_long functions_limit holds agrees)) h)
+file_held name work answer holds Unread (inl h) agrees read = absurd (read refl)
+file_held name work answer holds Unknown (inl h) agrees read = inr (unknown_is_memory name work answer h)
+
 -- a file was read where the count didn't rise
 was_read : (before now : ℕ) (given : Given) → HasReason before now given → ¬ Rose before now → given ≡ Unread → ⊥
 was_read before now Unread rose quiet e = quiet rose
@@ -178,6 +215,10 @@ held_answer (Some (Simplify patterns functions)) held left p g answer before now
 held_answer (Some (Simplify patterns functions)) held left p g answer before now (inl h) reason_p reason_g agrees quiet =
     ⊎_elim (λ first. functions_held patterns functions answer (held functions) (given_of patterns_limit (held patterns)) g first.stage first.reads first.after agrees.functions_agree.functions_given (was_read before now g reason_g quiet))
     (λ e. inr e) (patterns_held patterns functions answer (held patterns) p g h agrees.patterns_given (was_read before now p reason_p quiet))
+held_answer (Some (Check functions)) held left p g answer before now h reason_p reason_g agrees quiet =
+    file_held functions checked answer (held functions) g h agrees.functions_given (was_read before now g reason_g quiet)
+held_answer (Some (Run functions name values fuel)) held left p g answer before now h reason_p reason_g agrees quiet =
+    file_held functions (ran name values fuel) answer (held functions) g h agrees.functions_given (was_read before now g reason_g quiet)
 
 -- where no sink's count rose, all was written
 pub wrote_all : (answer : Answer) (out report : Sunk) (status : ℕ) → Writes answer out report status → ¬ Rose out.faults_old out.faults_new → ¬ Rose report.faults_old report.faults_new → WroteAll answer out report status

@@ -1,4 +1,6 @@
 pub mod AnswerLemmas
+pub mod CommandLemmas
+pub mod FileLemmas
 pub mod FirstFormLemmas
 pub mod GivenLemmas
 pub mod HeldLemmas

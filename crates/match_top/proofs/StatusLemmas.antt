@@ -6,9 +6,12 @@ use Rattle.first_patterns.specs.declared.row.Row.{Row}
 use Rattle.first_patterns.specs.FirstForm.{SpellsFile}
 use Rattle.first_patterns.specs.Matching.{row_at}
 use Rattle.pm_io.specs.Causes.{Rose}
-use Rattle.match_top.specs.Words.{Command, Simplify}
-use Rattle.match_top.specs.Answers.{Answer, Given, Bytes, Missing, TooLong, Unread, Unknown, Stage, Reached, Ended, OrMemory, Agrees, IsAnswer, ReadsPatterns, ReadsFunction, AfterPatterns, AfterFunction, simplified, no_memory, budget, patterns_limit, functions_limit}
+use Rattle.match_top.specs.Words.{Command, Simplify, Check, Run}
+use Rattle.match_top.specs.Answers.{Answer, Given, Bytes, Missing, TooLong, Unread, Unknown, Stage, Reached, Ended, OrMemory, Agrees, ReadsPatterns, ReadsFunction, AfterPatterns, AfterFunction, simplified, no_memory, budget, patterns_limit, functions_limit}
+use Rattle.match_top.specs.Commands.{checked, ran}
 use Rattle.match_top.specs.Given.{HasReason, CommandAgrees}
+use Rattle.match_top.specs.Program.{IsAnswer}
+use Rattle.match_top.proofs.FileLemmas.{checked_ends, ran_ends, silent, works_says}
 use Rattle.match_top.specs.Statuses.{IsPatterns, NotPatterns, NotFunction, IsRewritten, Says, StatusSays}
 use Rattle.match_top.specs.Writing.{Sunk, Writes}
 
@@ -152,10 +155,16 @@ answer_says (Some (Simplify patterns functions)) held left p g a before now (inl
     after_patterns patterns functions (held patterns) (held functions) before now p g h.stage a h.reads h.after agrees.patterns_given agrees.functions_agree.functions_given reason_p reason_g
 answer_says (Some (Simplify patterns functions)) held left p g a before now (inr e) reason_p reason_g agrees =
     by_memory patterns functions (held patterns) (held functions) before now a e
+answer_says (Some (Check functions)) held left p g a before now h reason_p reason_g agrees =
+    works_says (held functions) (Rose before now) checked before now (λ rose. rose) functions g a checked_ends h agrees.functions_given reason_g
+answer_says (Some (Run functions name values fuel)) held left p g a before now h reason_p reason_g agrees =
+    works_says (held functions) (Rose before now) (ran name values fuel) before now (λ rose. rose) functions g a (ran_ends name values fuel) h agrees.functions_given reason_g
 
 six_says : (command : Option Command) (held : List ℕ → Option (List ℕ)) (rose : Type 0) (status : ℕ) → status ≡ 6 → StatusSays held command rose status
 six_says None held rose status e = inr (inl e)
 six_says (Some (Simplify patterns functions)) held rose status e = says_eight (held patterns) (held functions) rose status (inl e)
+six_says (Some (Check functions)) held rose status e = silent (held functions) rose checked status (inl e)
+six_says (Some (Run functions name values fuel)) held rose status e = silent (held functions) rose (ran name values fuel) status (inl e)
 
 written_says : (command : Option Command) (held : List ℕ → Option (List ℕ)) (rose : Type 0) (a : Answer) (out report : Sunk) (status : ℕ) → Writes a out report status → StatusSays held command rose a.status → StatusSays held command rose status
 written_says command held rose a out report status (inl whole) says = subst (StatusSays held command rose) (sym whole.status_is) says

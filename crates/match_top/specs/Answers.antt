@@ -7,7 +7,6 @@ use Rattle.first_patterns.specs.declared.row.Row.{Row}
 use Rattle.first_patterns.specs.FirstForm.{SpellsFile}
 use Rattle.first_patterns.specs.Matching.{row_at}
 use Rattle.first_gimple.specs.Meaning.{IsFirstForm}
-use Rattle.match_top.specs.Words.{Command, Simplify}
 use Rattle.match_top.specs.Report.{line, report_of}
 
 pub record Answer : Type 0 where
@@ -118,8 +117,3 @@ pub record Simplifies (patterns functions : List ℕ) (given_patterns given_func
   pub stage : Stage (List ℕ × List Row)
   pub reads : ReadsPatterns patterns given_patterns stage
   pub after : AfterPatterns functions given_functions stage answer
-
--- The answer to the words of a command line. Want of memory is free.
-abbrev pub IsAnswer : Option Command → Given → Given → Answer → Type 0
-IsAnswer None p g answer = OrMemory (refusal 2 (codes "match_cli: bad command line")) answer
-IsAnswer (Some (Simplify patterns functions)) p g answer = Simplifies patterns functions p g answer ⊎ (answer ≡ no_memory)

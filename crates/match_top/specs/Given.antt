@@ -1,7 +1,7 @@
 -- What the inputs of the program hold, against what came of reading them.
 use Rattle.std.specs.Prelude.{◌≡◌, ℕ, List, [], Option, Some, None, ⊤}
 use Rattle.pm_io.specs.Causes.{Rose}
-use Rattle.match_top.specs.Words.{Command, Simplify}
+use Rattle.match_top.specs.Words.{Command, Simplify, Check, Run}
 use Rattle.match_top.specs.Answers.{Given, Bytes, Unread, Agrees, patterns_limit, functions_limit}
 
 -- a file is unread only where the inputs' count of faults rose
@@ -28,3 +28,5 @@ pub record FilesAgree (held : List ℕ → Option (List ℕ)) (left : List ℕ) 
 abbrev pub CommandAgrees : (List ℕ → Option (List ℕ)) → List ℕ → Option Command → Given → Given → Type 0
 CommandAgrees held left None p g = ⊤
 CommandAgrees held left (Some (Simplify patterns functions)) p g = FilesAgree held left patterns functions p g
+CommandAgrees held left (Some (Check functions)) p g = FunctionsAgree held left functions g
+CommandAgrees held left (Some (Run functions name values fuel)) p g = FunctionsAgree held left functions g

@@ -1,6 +1,9 @@
 pub mod Answers
+pub mod Commands
+pub mod GimpleFiles
 pub mod Given
 pub mod Held
+pub mod Program
 pub mod Report
 pub mod Settings
 pub mod Stages

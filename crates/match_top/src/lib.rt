@@ -2,6 +2,9 @@
 #![tactic(auto)]
 
 mod answer;
+mod file_commands;
+mod gimple_file;
+mod gimple_lines;
 mod program;
 mod report;
 mod simplify;

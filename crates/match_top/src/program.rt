@@ -2,16 +2,18 @@
 ghost use Rattle.std.specs.Prelude.{◌≡◌, ◌≢◌, ◌⊎◌, ◌≤◌, ℕ, List, Some, None, Option, map, string_bytes, IfSome};
 ghost use Rattle.pm_io.specs.Causes.{Rose};
 ghost use Rattle.match_top.specs.Answers as answers;
-ghost use Rattle.match_top.specs.Answers.{Given, IsAnswer};
+ghost use Rattle.match_top.specs.Answers.{Given};
 ghost use Rattle.match_top.specs.Given.{HasReason, CommandAgrees};
 ghost use Rattle.match_top.specs.Held.{GivesHeldAnswer, IsStatus};
 ghost use Rattle.match_top.specs.Statuses.{StatusSays};
+ghost use Rattle.match_top.specs.Program.{IsAnswer};
 ghost use Rattle.match_top.specs.Words.{command_of};
-ghost use Rattle.match_top.specs.Settings.{spelled};
+ghost use Rattle.match_top.specs.Settings.{spelled, spelled_by};
 ghost use Rattle.match_top.specs.Stages.{answered};
 ghost use Rattle.match_top.specs.Writing.{Writes};
 
 use crate::answer::{Answer, Stop, refused, settle};
+use crate::file_commands::{check, run_command};
 use crate::simplify::simplify;
 use crate::words::{Command, settings};
 use crate::writing::write;
@@ -124,7 +126,25 @@ fn perform<I: Inputs>(
     ensures later { I.faults inputs.old ≤ I.faults inputs.new }
 {
     match command {
-        Some(command) => simplify(alloc, inputs, &command.patterns, &command.functions),
+        Some(command) => execute(alloc, &command, inputs),
         None => Err(refused(alloc, 2, "match_cli: bad command line", "")),
+    }
+}
+
+/// Does what the command asks.
+fn execute<I: Inputs>(alloc: Global, command: &Command, inputs: &mut I) -> Result<Answer, Stop>
+    ensures answer { (p : Given) × (g : Given)
+        × IsAnswer (Some (spelled_by command.now)) p g (answered result)
+        × HasReason (I.faults inputs.old) (I.faults inputs.new) p
+        × HasReason (I.faults inputs.old) (I.faults inputs.new) g
+        × IfSome (I.holds inputs.old) (λ held. CommandAgrees held (I.left inputs.new) (Some (spelled_by command.now)) p g) }
+    ensures later { I.faults inputs.old ≤ I.faults inputs.new }
+{
+    match command {
+        Command::Simplify(patterns, functions) => simplify(alloc, inputs, patterns, functions),
+        Command::Check(functions) => check(alloc, inputs, functions),
+        Command::Run(functions, name, values, fuel) => {
+            run_command(alloc, inputs, functions, name, values.as_slice(), *fuel)
+        }
     }
 }
