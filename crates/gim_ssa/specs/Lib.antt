@@ -1,3 +1,3 @@
 pub mod Marks
 pub mod Reach
-pub mod Readings
+pub mod Search

@@ -6,6 +6,4 @@
 
 pub mod laws;
 pub mod reach;
-pub mod readings;
-#[cfg(test)]
-mod tests;
+pub mod search;
