@@ -1,3 +1,4 @@
+pub mod HeadLemmas
 pub mod MarksLemmas
 pub mod ReachLemmas
 pub mod SearchLemmas

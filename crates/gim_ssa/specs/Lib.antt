@@ -1,3 +1,5 @@
+pub mod Heads
+pub mod Layout
 pub mod Marks
 pub mod Reach
 pub mod Search

@@ -5,5 +5,7 @@
 #![tactic(auto)]
 
 pub mod laws;
+pub mod layout;
+pub mod marks;
 pub mod reach;
 pub mod search;
