@@ -2,3 +2,4 @@ pub mod HeadLemmas
 pub mod MarksLemmas
 pub mod ReachLemmas
 pub mod SearchLemmas
+pub mod UsesLemmas
