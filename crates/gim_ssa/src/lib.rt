@@ -8,6 +8,7 @@ pub mod laws;
 pub mod layout;
 pub mod marks;
 pub mod places;
+pub mod plan;
 pub mod reach;
 pub mod search;
 pub mod uses;
