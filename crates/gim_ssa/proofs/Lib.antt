@@ -1,5 +1,6 @@
 pub mod HeadLemmas
 pub mod MarksLemmas
+pub mod PlaceLemmas
 pub mod ReachLemmas
 pub mod SearchLemmas
 pub mod UsesLemmas
