@@ -3,4 +3,5 @@ pub mod MarksLemmas
 pub mod PlaceLemmas
 pub mod ReachLemmas
 pub mod SearchLemmas
+pub mod SupportTables
 pub mod UsesLemmas

@@ -1,4 +1,5 @@
 pub mod Heads
+pub mod Known
 pub mod Layout
 pub mod Marks
 pub mod Places
