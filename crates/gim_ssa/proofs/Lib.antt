@@ -1,3 +1,4 @@
+pub mod FlowMarks
 pub mod HeadLemmas
 pub mod MarksLemmas
 pub mod PlaceLemmas
