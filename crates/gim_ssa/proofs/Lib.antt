@@ -3,6 +3,7 @@ pub mod HeadLemmas
 pub mod MarksLemmas
 pub mod PlaceLemmas
 pub mod ReachLemmas
+pub mod ReadableUses
 pub mod SearchLemmas
 pub mod SupportTables
 pub mod UsesLemmas

@@ -4,6 +4,7 @@
 //! whichever way the point was reached. The definitions stand in gim_ast: `Paths` and `Readable`.
 #![tactic(auto)]
 
+pub mod checking;
 pub mod known;
 pub mod laws;
 pub mod layout;
