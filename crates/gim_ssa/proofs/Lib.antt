@@ -1,7 +1,9 @@
+pub mod CheckLemmas
 pub mod FlowMarks
 pub mod HeadLemmas
 pub mod MarksLemmas
 pub mod PlaceLemmas
+pub mod PlacedUses
 pub mod ReachLemmas
 pub mod ReadableUses
 pub mod SearchLemmas
