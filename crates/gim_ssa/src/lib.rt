@@ -4,13 +4,17 @@
 //! whichever way the point was reached. The definitions stand in gim_ast: `Paths` and `Readable`.
 #![tactic(auto)]
 
-pub mod checking;
-pub mod known;
+mod checking;
+mod fault;
+mod known;
 pub mod laws;
-pub mod layout;
-pub mod marks;
-pub mod places;
-pub mod plan;
-pub mod reach;
-pub mod search;
-pub mod uses;
+mod layout;
+mod marks;
+mod places;
+mod plan;
+mod reach;
+mod search;
+mod uses;
+
+pub use checking::check;
+pub use fault::CheckFault;
