@@ -1,4 +1,5 @@
 pub mod Checking
+pub mod Examples
 pub mod Heads
 pub mod Known
 pub mod Layout

@@ -18,3 +18,6 @@ mod uses;
 
 pub use checking::check;
 pub use fault::CheckFault;
+
+#[cfg(test)]
+mod tests;

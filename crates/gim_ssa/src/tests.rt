@@ -1,0 +1,99 @@
+ghost use Rattle.std.specs.Prelude.{◌≡◌, Bool, map, IfOk};
+ghost use Rattle.gim_ast.specs.WellFormed.{IsWellFormed};
+ghost use Rattle.gim_ssa.specs.Examples.{x as x_of, sum_of, phi_of, block_of, either as either_of, row_of_x, function_of, joined};
+
+use super::*;
+use gim_ast::{Block, Decl, End, Function, NameRow, Operands, Phi, Rhs, Stmt};
+use pm_items::Items;
+use pm_ops::{Code, OutOfMemory, Text};
+use pm_wide::{IntType, Operand};
+use std::alloc::Global;
+
+fn x(version: u32) -> Operand
+    ensures { result ≡ x_of version }
+{
+    Operand::Name(version, IntType::int())
+}
+
+/// `if (x_1(D) < x_1(D)) goto __BBn; else goto __BBm;`
+fn either(yes: u32, no: u32) -> End
+    ensures { result ≡ either_of yes no }
+{
+    End::If(Code::Lt, x(1), x(1), yes, no)
+}
+
+/// `x_i = x_j + x_k;` for each (i, j, k).
+fn sums(alloc: Global, sums: &[(u32, u32, u32)]) -> Result<Items<Stmt>, OutOfMemory>
+    ensures { IfOk result (λ stmts. stmts ≡ map sum_of sums.now) }
+{
+    let mut stmts = Items::new(alloc);
+    for sum in sums {
+        let operands = Operands::two(alloc, x(sum.1), x(sum.2));
+        stmts.push(Stmt { name: sum.0, rhs: Rhs::Op(Code::Plus, operands) })?;
+    }
+    Ok(stmts)
+}
+
+/// `x_i = __PHI (__BBn: x_j, __BBm: x_k);` for each i, (n, j) and (m, k).
+fn phis(alloc: Global, choices: &[(u32, (u32, u32), (u32, u32))]) -> Result<Items<Phi>, OutOfMemory>
+    ensures { IfOk result (λ phis. phis ≡ map phi_of choices.now) }
+{
+    let mut phis = Items::new(alloc);
+    for choice in choices {
+        let left = choice.1;
+        let right = choice.2;
+        let args = [(left.0, x(left.1)), (right.0, x(right.1))];
+        phis.push(Phi { name: choice.0, args: Items::from_slice(alloc, &args)? })?;
+    }
+    Ok(phis)
+}
+
+fn block(alloc: Global, number: u32, choices: &[(u32, (u32, u32), (u32, u32))], statements: &[(u32, u32, u32)], end: End) -> Result<Block, OutOfMemory>
+    ensures { IfOk result (λ block. block ≡ block_of number choices.now statements.now end) }
+{
+    let phis = phis(alloc, choices)?;
+    let stmts = sums(alloc, statements)?;
+    Ok(Block { number, phis, stmts, end })
+}
+
+fn row(alloc: Global, version: u32, initial: bool) -> Result<NameRow, OutOfMemory>
+    ensures { IfOk result (λ row. row ≡ row_of_x version initial) }
+{
+    let base = Text::new(alloc, b"x")?;
+    Ok(NameRow { version, base, ty: IntType::int(), initial })
+}
+
+/// `int f (int x)` of these blocks, with or without the name x_3.
+fn function(alloc: Global, third: bool, blocks: Items<Block>) -> Result<Function, OutOfMemory>
+    ensures { IfOk result (λ function. function ≡ function_of third blocks) }
+{
+    let name = Text::new(alloc, b"f")?;
+    let mut params = Items::new(alloc);
+    params.push(Decl { ident: Text::new(alloc, b"x")?, ty: IntType::int() })?;
+    let mut names = Items::new(alloc);
+    names.push(row(alloc, 1, true)?)?;
+    names.push(row(alloc, 2, false)?)?;
+    if third {
+        names.push(row(alloc, 3, false)?)?;
+    }
+    Ok(Function { name, result: IntType::int(), params, decls: Items::new(alloc), names, blocks })
+}
+
+/// One of two ways assigns what is returned where they join.
+fn join(alloc: Global) -> Result<Function, OutOfMemory>
+    ensures is { IfOk result (λ function. function ≡ joined) }
+{
+    let mut blocks = Items::new(alloc);
+    blocks.push(block(alloc, 2, &[], &[], either(3, 4))?)?;
+    blocks.push(block(alloc, 3, &[], &[(2, 1, 1)], End::Goto(4))?)?;
+    blocks.push(block(alloc, 4, &[], &[], End::Return(x(2)))?)?;
+    function(alloc, false, blocks)
+}
+
+#[test]
+fn a_name_of_one_way_alone_is_not_readable(rt: HostRuntime) -> Result<(), OutOfMemory> {
+    let function = join(rt.alloc())?;
+    let fault = CheckFault::NotReadable { block: 4, item: 1, name: 2 };
+    assert_eq!(rt; check(rt.alloc(), &function), Err(fault));
+    Ok(())
+}
