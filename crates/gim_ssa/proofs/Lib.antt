@@ -1,4 +1,5 @@
 pub mod CheckLemmas
+pub mod ExampleLemmas
 pub mod FlowMarks
 pub mod HeadLemmas
 pub mod MarksLemmas

@@ -24,12 +24,19 @@ pub struct NameUse {
 }
 
 /// Appends the uses in operands, which are like `like` but for the name.
-fn push_operands(uses: &mut Vec<NameUse>, like: &NameUse, operands: &[Operand]) -> Result<(), OutOfMemory>
+fn push_operands(
+    uses: &mut Vec<NameUse>,
+    like: &NameUse,
+    operands: &[Operand],
+) -> Result<(), OutOfMemory>
     ensures { OnOk result (uses.new.items ≡ uses.old.items ++ uses_of_names like.now operands.now) }
 {
     for operand in operands {
         if let Operand::Name(name, _) = operand {
-            uses.push(NameUse { name: *name, ..*like })?;
+            uses.push(NameUse {
+                name: *name,
+                ..*like
+            })?;
         }
     }
     Ok(())
@@ -62,14 +69,25 @@ fn push_phi(uses: &mut Vec<NameUse>, block: u32, item: u32, phi: &Phi) -> Result
     ensures { OnOk result (uses.new.items ≡ uses.old.items ++ map seen (uses_in_phi block item phi.now)) }
 {
     for arg in phi.args.as_slice() {
-        let like = NameUse { block, item, name: 0, at: arg.0, left: 0 };
+        let like = NameUse {
+            block,
+            item,
+            name: 0,
+            at: arg.0,
+            left: 0,
+        };
         push_operands(uses, &like, &[arg.1])?;
     }
     Ok(())
 }
 
 /// Appends the uses in phis that are counted from `item`.
-fn push_phis(uses: &mut Vec<NameUse>, block: u32, mut item: u32, phis: &[Phi]) -> Result<(), OutOfMemory>
+fn push_phis(
+    uses: &mut Vec<NameUse>,
+    block: u32,
+    mut item: u32,
+    phis: &[Phi],
+) -> Result<(), OutOfMemory>
     requires { item + length phis.now < 2 ^ 32 }
     ensures { OnOk result (uses.new.items ≡ uses.old.items ++ map seen (uses_in_phis block item phis.now)) }
 {
@@ -82,12 +100,23 @@ fn push_phis(uses: &mut Vec<NameUse>, block: u32, mut item: u32, phis: &[Phi]) -
 
 /// Appends the uses in statements that are counted from `item`: each reads before it assigns.
 #[tactic(auto, using(crate::proofs::UsesLemmas::seen_at))]
-fn push_stmts(uses: &mut Vec<NameUse>, block: u32, mut item: u32, stmts: &[Stmt]) -> Result<(), OutOfMemory>
+fn push_stmts(
+    uses: &mut Vec<NameUse>,
+    block: u32,
+    mut item: u32,
+    stmts: &[Stmt],
+) -> Result<(), OutOfMemory>
     requires { item + length stmts.now < 2 ^ 32 }
     ensures { OnOk result (uses.new.items ≡ uses.old.items ++ map seen (uses_in_stmts block item stmts.now)) }
 {
     for (before, stmt) in stmts.iter().enumerate() {
-        let like = NameUse { block, item, name: 0, at: block, left: stmts.len() - before };
+        let like = NameUse {
+            block,
+            item,
+            name: 0,
+            at: block,
+            left: stmts.len() - before,
+        };
         push_rhs(uses, &like, &stmt.rhs)?;
         item += 1;
     }
@@ -104,7 +133,13 @@ fn push_block(uses: &mut Vec<NameUse>, block: &Block) -> Result<(), OutOfMemory>
     let end = statements + block.stmts.len() as u32;
     push_phis(uses, block.number, 1, block.phis.as_slice())?;
     push_stmts(uses, block.number, statements, block.stmts.as_slice())?;
-    let like = NameUse { block: block.number, item: end, name: 0, at: block.number, left: 0 };
+    let like = NameUse {
+        block: block.number,
+        item: end,
+        name: 0,
+        at: block.number,
+        left: 0,
+    };
     push_end(uses, &like, &block.end)
 }
 

@@ -8,5 +8,5 @@ loop-before-preserved c =
     record {
       counted = omega (arith, c.loop-before.invariant.counted);
       uses = noted_on _ _ _ _ _ _ c.in_ok-push_rhs.ensures c.loop-before.invariant.uses
-        (next_stmt c.args.block c.loop-before.item c.args.stmts.now c.loop-before.before c.index-stmts-before.result inside c.index-stmts-before.is);
+          (next_stmt c.args.block c.loop-before.item c.args.stmts.now c.loop-before.before c.index-stmts-before.result inside c.index-stmts-before.is);
     }
