@@ -1,2 +1,12 @@
+pub mod CheckLemmas
+pub mod ExampleLemmas
+pub mod FlowMarks
+pub mod HeadLemmas
 pub mod MarksLemmas
+pub mod PlaceLemmas
+pub mod PlacedUses
 pub mod ReachLemmas
+pub mod ReadableUses
+pub mod SearchLemmas
+pub mod SupportTables
+pub mod UsesLemmas

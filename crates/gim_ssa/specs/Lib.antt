@@ -1,3 +1,11 @@
+pub mod Checking
+pub mod Examples
+pub mod Heads
+pub mod Known
+pub mod Layout
 pub mod Marks
+pub mod Places
+pub mod Plan
 pub mod Reach
-pub mod Readings
+pub mod Search
+pub mod Uses

@@ -8,8 +8,6 @@ ghost use Rattle.gim_ast.specs.Substitution.{put_in_all, with_rhs, with_conditio
 ghost use Rattle.gim_ast.specs.Paths.{Stretch, flow_of, stretch_at, Path};
 ghost use Rattle.gim_ast.specs.Readable.{read_for, is_initial, Supports, IsReadable, IsValid, IsFirstUnreadable};
 ghost use Rattle.gim_ast.specs.WellFormed.{is_among};
-ghost use Rattle.gim_ssa.specs.declared.reach.Edge.{Edge};
-ghost use Rattle.gim_ssa.specs.Reach.{Reached, AreReadings};
 ghost use Rattle.gim_ssa.specs.Marks.{AreMarks, TellsSupport, AllLeadToFresh};
 
 /// In a valid function, where a name is readable each name of its support is.
@@ -57,11 +55,4 @@ pub fn marks_decide_readability()
         TellsSupport x in_support (read_for f) → AreMarks x in_support (flow_of f) (is_initial f x) marked →
         (n : ℕ) (home : Stretch) (front left : List ℕ) → stretch_at (flow_of f) n ≡ Some home → home.assigns ≡ front ++ left →
         IsReadable f x n left ↔ ((in_support x ≡ false) × AllLeadToFresh x in_support marked n front) }
-{}
-
-/// The support of a name is what is reached from the names that its statement reads, along edges from each name to
-/// those that its statement reads.
-pub fn support_is_what_is_reached()
-    ensures { (edges : List Edge) (reads : ℕ → List ℕ) → AreReadings edges reads → (x y : ℕ) →
-        Supports reads x y ↔ Reached edges (λ q. is_among q (reads x)) y }
 {}

@@ -4,8 +4,20 @@
 //! whichever way the point was reached. The definitions stand in gim_ast: `Paths` and `Readable`.
 #![tactic(auto)]
 
+mod checking;
+mod fault;
+mod known;
 pub mod laws;
-pub mod reach;
-pub mod readings;
+mod layout;
+mod marks;
+mod places;
+mod plan;
+mod reach;
+mod search;
+mod uses;
+
+pub use checking::check;
+pub use fault::CheckFault;
+
 #[cfg(test)]
 mod tests;
