@@ -1,5 +1,6 @@
 -- What `check` and `run` need: valid functions may be printed, and words for parameters.
-use Rattle.std.proofs.Common.{◌≡◌, ◌≢◌, ℕ, zero, suc, List, [], ◌∷◌, ◌++◌, length, map, Option, Some, None, Bool, true, false, refl, sym, ap, ◌∙◌, arith}
+use Rattle.std.proofs.Common.{◌≡◌, ◌≢◌, ℕ, zero, suc, List, [], ◌∷◌, ◌++◌, length, map, Option, Some, None, Bool, true, false, ◌+◌, ◌<◌, get_or, drop, drop-cons, subst, refl, sym, ap, ◌∙◌, arith}
+use Rattle.std.proofs.lemmas.List.{length-map}
 use Rattle.std.specs.List.{AllByRecursion}
 use Rattle.std.specs.Prelude.{All, IsTrue, option_map, slice_index_or, ℤ, cond}
 use Rattle.pm_wide.specs.Types.{Ty, Word, in_range, word}
@@ -11,7 +12,7 @@ use Rattle.gim_printer.proofs.WellFormedLemmas.{names_rise_where_well_formed}
 use Rattle.gim_run.specs.Slots.{types_of_words}
 use Rattle.gim_run.specs.Machines.{AreArguments}
 use Rattle.gim_text.specs.Literals.{word_in}
-use Rattle.match_top.specs.Commands.{number_of_value, and_arguments, arguments_of}
+use Rattle.match_top.specs.Commands.{number_of_value, and_arguments, arguments_of, is_named, function_named}
 
 pub valid_rises : (f : Function) → IsValid f → IsTrue (names_rise f)
 valid_rises f valid = names_rise_where_well_formed f valid.well_formed
@@ -65,3 +66,33 @@ typed (decl ∷ decls) (v ∷ vs) args e = types_by decl.ty (number_of_value v) 
 
 pub are_arguments : (f : Function) (vs : List (List ℕ)) (args : List Word) → Some args ≡ arguments_of f.params vs → AreArguments f args
 are_arguments f vs args e = typed f.params vs args (sym e)
+
+-- ---- words one after another
+
+at_cons : {X : Type 0} (xs : List X) (i : ℕ) (x : X) → i < length xs → x ≡ get_or xs i x → drop i xs ≡ x ∷ drop (i + 1) xs
+at_cons xs i x within is = let e : i + 1 ≡ suc i = omega arith in rw e (drop-cons xs i x within ∙ ap (λ y. y ∷ drop (suc i) xs) (sym is))
+
+module _ {S : Type 0} (bytes : S → List ℕ) where
+  pub unequal_values : (decls : List Decl) (values : List S) → length decls ≢ length values → arguments_of decls (map bytes values) ≡ None
+  unequal_values decls values other = unequal decls (map bytes values) (λ e. other (e ∙ length-map bytes values))
+
+  pub next_refused : (decls : List Decl) (values : List S) (args : List Word) (i : ℕ) (decl : Decl) (value : S) → i < length decls → i < length values
+      → decl ≡ get_or decls i decl → value ≡ get_or values i value → word_in decl.ty (number_of_value (bytes value)) ≡ None
+      → option_map (λ l. args ++ l) (arguments_of (drop i decls) (map bytes (drop i values))) ≡ None
+  next_refused decls values args i decl value within among is_decl is_value refused =
+      rw (at_cons decls i decl within is_decl, at_cons values i value among is_value, refused) refl
+
+  pub next_word : (decls : List Decl) (values : List S) (args longer : List Word) (w : Word) (i : ℕ) (decl : Decl) (value : S) → i < length decls → i < length values
+      → decl ≡ get_or decls i decl → value ≡ get_or values i value → word_in decl.ty (number_of_value (bytes value)) ≡ Some w → longer ≡ args ++ w ∷ []
+      → option_map (λ l. args ++ l) (arguments_of (drop i decls) (map bytes (drop i values))) ≡ option_map (λ l. longer ++ l) (arguments_of (drop (i + 1) decls) (map bytes (drop (i + 1) values)))
+  next_word decls values args longer w i decl value within among is_decl is_value found is_longer =
+      rw (at_cons decls i decl within is_decl, at_cons values i value among is_value, found, is_longer) (one_more args w (arguments_of (drop (i + 1) decls) (map bytes (drop (i + 1) values))))
+
+-- ---- the function of a name
+
+pub found_valid : (name : List ℕ) (fs : List Function) (f : Function) → Some f ≡ function_named name fs → AllByRecursion IsValid fs → IsValid f
+found_valid name [] f e valid = absurd cc
+found_valid name (g ∷ fs) f e valid = by (is_named name g) e where
+  by : (test : Bool) → Some f ≡ cond test (Some g) (function_named name fs) → IsValid f
+  by true e = subst IsValid cc valid.0
+  by false e = found_valid name fs f e valid.1

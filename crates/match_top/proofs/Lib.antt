@@ -1,5 +1,6 @@
 pub mod AnswerLemmas
 pub mod CommandLemmas
+pub mod FaultLemmas
 pub mod FileLemmas
 pub mod FirstFormLemmas
 pub mod GivenLemmas

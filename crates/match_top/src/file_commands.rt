@@ -122,7 +122,6 @@ fn function_named<'a>(functions: &'a [Function], name: &str) -> Option<&'a Funct
 }
 
 /// A word for each parameter, if there are as many values and each suits.
-#[tactic(auto, using(std::proofs::lemmas::List::at_drop_more, crate::proofs::CommandLemmas::unequal, crate::proofs::CommandLemmas::one_more, crate::proofs::CommandLemmas::one_refused))]
 fn arguments(
     alloc: Global,
     params: &[Decl],

@@ -1,10 +1,9 @@
-use Rattle.std.proofs.Common.{◌≡◌, List, ◌++◌}
-use Rattle.std.specs.List.{AllByRecursion}
-use Rattle.gim_ast.specs.declared.function.Function.{Function}
-use Rattle.gim_ast.specs.Readable.{IsValid}
-use Rattle.gim_ast.specs.WellFormed.{IsWellFormed}
+use Rattle.std.proofs.Common.{length}
+use Rattle.match_top.proofs.FaultLemmas.{Judged}
 use Rattle.match_top.proofs.gimple_file.all_valid.Given as goal
 
--- those before are valid
 abbrev pub invariant-loop-rest : goal.invariant-loop-rest
-invariant-loop-rest l = AllByRecursion IsWellFormed l.rest × ((before : List Function) × (l.functions ≡ before ++ l.rest) × AllByRecursion IsValid before)
+invariant-loop-rest l = Judged l.functions l.rest
+
+abbrev pub decreases-loop-rest : goal.decreases-loop-rest
+decreases-loop-rest l = length l.rest
