@@ -74,25 +74,27 @@ at_cons xs i x within is = let e : i + 1 ≡ suc i = omega arith in rw e (drop-c
 
 module _ {S : Type 0} (bytes : S → List ℕ) where
   pub unequal_values : (decls : List Decl) (values : List S) → length decls ≢ length values → arguments_of decls (map bytes values) ≡ None
-  unequal_values decls values other = unequal decls (map bytes values) (λ e. other (e ∙ length-map bytes values))
+  unequal_values decls values other = unequal decls (map bytes values) (λ e. other (e ∙ length-map values bytes))
 
   pub next_refused : (decls : List Decl) (values : List S) (args : List Word) (i : ℕ) (decl : Decl) (value : S) → i < length decls → i < length values
-      → decl ≡ get_or decls i decl → value ≡ get_or values i value → word_in decl.ty (number_of_value (bytes value)) ≡ None
+      → decl ≡ get_or decls i decl → value ≡ get_or values i value → word_in (get_or decls i decl).ty (number_of_value (bytes value)) ≡ None
       → option_map (λ l. args ++ l) (arguments_of (drop i decls) (map bytes (drop i values))) ≡ None
   next_refused decls values args i decl value within among is_decl is_value refused =
-      rw (at_cons decls i decl within is_decl, at_cons values i value among is_value, refused) refl
+      let none : word_in decl.ty (number_of_value (bytes value)) ≡ None = ap (λ (d : Decl). word_in d.ty (number_of_value (bytes value))) is_decl ∙ refused in
+      rw (at_cons decls i decl within is_decl, at_cons values i value among is_value, none) refl
 
   pub next_word : (decls : List Decl) (values : List S) (args longer : List Word) (w : Word) (i : ℕ) (decl : Decl) (value : S) → i < length decls → i < length values
-      → decl ≡ get_or decls i decl → value ≡ get_or values i value → word_in decl.ty (number_of_value (bytes value)) ≡ Some w → longer ≡ args ++ w ∷ []
+      → decl ≡ get_or decls i decl → value ≡ get_or values i value → word_in (get_or decls i decl).ty (number_of_value (bytes value)) ≡ Some w → longer ≡ args ++ w ∷ []
       → option_map (λ l. args ++ l) (arguments_of (drop i decls) (map bytes (drop i values))) ≡ option_map (λ l. longer ++ l) (arguments_of (drop (i + 1) decls) (map bytes (drop (i + 1) values)))
   next_word decls values args longer w i decl value within among is_decl is_value found is_longer =
-      rw (at_cons decls i decl within is_decl, at_cons values i value among is_value, found, is_longer) (one_more args w (arguments_of (drop (i + 1) decls) (map bytes (drop (i + 1) values))))
+      let some : word_in decl.ty (number_of_value (bytes value)) ≡ Some w = ap (λ (d : Decl). word_in d.ty (number_of_value (bytes value))) is_decl ∙ found in
+      rw (at_cons decls i decl within is_decl, at_cons values i value among is_value, some, is_longer) (one_more args w (arguments_of (drop (i + 1) decls) (map bytes (drop (i + 1) values))))
 
 -- ---- the function of a name
 
 pub found_valid : (name : List ℕ) (fs : List Function) (f : Function) → Some f ≡ function_named name fs → AllByRecursion IsValid fs → IsValid f
 found_valid name [] f e valid = absurd cc
-found_valid name (g ∷ fs) f e valid = by (is_named name g) e where
-  by : (test : Bool) → Some f ≡ cond test (Some g) (function_named name fs) → IsValid f
-  by true e = subst IsValid cc valid.0
-  by false e = found_valid name fs f e valid.1
+found_valid name (g ∷ fs) f e valid = by g fs f (is_named name g) (function_named name fs) e valid.0 (λ h. found_valid name fs f h valid.1) where
+  by : (g : Function) (fs : List Function) (f : Function) (test : Bool) (further : Option Function) → Some f ≡ cond test (Some g) further → IsValid g → (Some f ≡ further → IsValid f) → IsValid f
+  by g fs f true further e valid next = let same : g ≡ f = cc in subst IsValid same valid
+  by g fs f false further e valid next = next e

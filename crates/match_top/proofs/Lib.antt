@@ -8,3 +8,4 @@ pub mod HeldLemmas
 pub mod NameLemmas
 pub mod RowLemmas
 pub mod StatusLemmas
+pub mod ValueLemmas

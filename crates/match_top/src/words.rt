@@ -1,5 +1,5 @@
 //! The words of a command line.
-ghost use Rattle.std.specs.Prelude.{◌≡◌, ◌++◌, List, ℕ, IfOk, map, string_bytes, option_map};
+ghost use Rattle.std.specs.Prelude.{◌≡◌, ◌++◌, List, ℕ, IfOk, bytes_eq, codes, map, string_bytes, option_map};
 ghost use Rattle.match_top.specs.Words.{command_of, simplify_of, check_of, run_of, values_of, fuel_of, is_positional, is_size, is_value};
 ghost use Rattle.match_top.specs.Settings.{spelled, tail_of};
 
@@ -93,10 +93,10 @@ fn values(alloc: Global, words: &[String]) -> Result<Option<(Vec<String>, u32)>,
     let mut values = Vec::new(alloc);
     let mut rest = words;
     while let [word, after @ ..] = rest {
-        if word.as_str() == "--fuel" {
+        if is_fuel(word) {
             return Ok(with_fuel(values, after));
         }
-        if !is_value(word.as_bytes()) {
+        if !is_value(word) {
             return Ok(None);
         }
         values.push(copy(alloc, word)?)?;
@@ -123,14 +123,21 @@ fn is_size(digits: &[u8]) -> bool
     is_number_text(digits) && digits.len() <= 39
 }
 
-/// Whether the word is a value.
-fn is_value(word: &[u8]) -> bool
-    ensures { result ≡ is_value word.now }
+/// Whether the word is the option that says the fuel.
+fn is_fuel(word: &String) -> bool
+    ensures { result ≡ bytes_eq (string_bytes word.now) (codes "--fuel") }
 {
-    match word {
+    word.as_str() == "--fuel"
+}
+
+/// Whether the word is a value.
+fn is_value(word: &String) -> bool
+    ensures { result ≡ is_value (string_bytes word.now) }
+{
+    match word.as_bytes() {
         [] => false,
         [b'-', rest @ ..] => is_size(rest) && rest != b"0".as_slice(),
-        _ => is_size(word),
+        bytes => is_size(bytes),
     }
 }
 

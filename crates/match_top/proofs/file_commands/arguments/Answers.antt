@@ -1,5 +1,5 @@
 -- Each value in turn: its word, or none.
-use Rattle.std.proofs.Common.{sym, ap, ◌∙◌, arith}
+use Rattle.std.proofs.Common.{get_or, sym, ap, ◌∙◌, arith}
 use Rattle.std.specs.Prelude.{string_bytes}
 use Rattle.gim_text.specs.Literals.{word_in}
 use Rattle.match_top.specs.Commands.{number_of_value}
@@ -13,10 +13,10 @@ pub returns-in-None : goal.returns-in-None
 returns-in-None c =
     sym (c.loop-at.invariant ∙ next_refused string_bytes c.args.params.now c.args.values.now c.loop-at.args.items c.loop-at.at c.index-params-at.result c.index-values-at.result
     c.loop-at-test.true (omega (arith, c.loop-at-test.true, c.if-params-values.false)) c.index-params-at.is c.index-values-at.is
-    (ap (λ b. word_in c.index-params-at.result.ty (number_of_value b)) (sym c.as_bytes.ensures.value) ∙ sym c.argument.ensures ∙ c.in-None.is))
+    (ap (λ b. word_in (get_or c.args.params.now c.loop-at.at c.index-params-at.result).ty (number_of_value b)) (sym c.as_bytes.ensures.value) ∙ sym c.argument.ensures ∙ c.in-None.is))
 
 pub loop-at-preserved : goal.loop-at-preserved
 loop-at-preserved c =
     c.loop-at.invariant ∙ next_word string_bytes c.args.params.now c.args.values.now c.loop-at.args.items c.push.new.self.items c.in-Some.word c.loop-at.at c.index-params-at.result c.index-values-at.result
     c.loop-at-test.true (omega (arith, c.loop-at-test.true, c.if-params-values.false)) c.index-params-at.is c.index-values-at.is
-    (ap (λ b. word_in c.index-params-at.result.ty (number_of_value b)) (sym c.as_bytes.ensures.value) ∙ sym c.argument.ensures ∙ c.in-Some.is) c.in_ok-push-in-Some.ensures.items
+    (ap (λ b. word_in (get_or c.args.params.now c.loop-at.at c.index-params-at.result).ty (number_of_value b)) (sym c.as_bytes.ensures.value) ∙ sym c.argument.ensures ∙ c.in-Some.is) c.in_ok-push-in-Some.ensures.items

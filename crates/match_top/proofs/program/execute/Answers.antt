@@ -1,4 +1,4 @@
-use Rattle.std.proofs.Common.{inl}
+use Rattle.std.proofs.Common.{◌≡◌, inl}
 use Rattle.match_top.specs.Answers.{Unknown}
 use Rattle.match_top.proofs.program.execute.Goals as goal
 
@@ -15,4 +15,5 @@ returns-in-Check-clause-answer g c =
 pub returns-in-Run-clause-answer : goal.returns-in-Run-clause-answer
 returns-in-Run-clause-answer g c =
     let e = c.run_command.ensures.answer in
-    rw c.in-Run.is (Unknown, e.0, inl e.1, tt, e.2, e.3)
+    let same : c.as_slice.result.now ≡ c.in-Run.values.items = c.as_slice.ensures.value in
+    rw (c.in-Run.is, ← same) (Unknown, e.0, inl e.1, tt, e.2, e.3)
