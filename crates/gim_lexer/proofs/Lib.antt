@@ -1,0 +1,2 @@
+pub mod StarSlash
+pub mod TableRows

@@ -1,0 +1,9 @@
+pub mod Cuts
+pub mod Faults
+pub mod Marks
+pub mod Numbers
+pub mod Pieces
+pub mod Separators
+pub mod Tables
+pub mod Tokens
+pub mod Words
