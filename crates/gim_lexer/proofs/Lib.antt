@@ -1,2 +1,5 @@
 pub mod StarSlash
 pub mod TableRows
+pub mod Fronts
+pub mod Cutting
+pub mod Steps

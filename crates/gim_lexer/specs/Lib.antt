@@ -4,6 +4,7 @@ pub mod Marks
 pub mod Numbers
 pub mod Pieces
 pub mod Separators
+pub mod Spelled
 pub mod Tables
 pub mod Tokens
 pub mod Words
