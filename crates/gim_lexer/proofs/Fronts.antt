@@ -6,7 +6,7 @@ use Rattle.std.specs.Str.{bytes_eq}
 use Rattle.std.specs.Cmp.Lexicographic.{bytes_decides}
 use Rattle.std.proofs.lemmas.Bool.{and_parts, and_from, or_from, false≢true, eqb-true}
 use Rattle.std.proofs.lemmas.Bool.Decides.{nat_tests}
-use Rattle.std.proofs.lemmas.List.{length-drop}
+use Rattle.std.proofs.lemmas.List.{length-drop, length-take-le}
 use Rattle.std.proofs.lemmas.List.Sums.{prefix_len-le-length}
 use Rattle.std.proofs.lemmas.List.Folds.{list_any-append}
 use Rattle.std.proofs.Math.Seq.{take-add}
@@ -123,8 +123,8 @@ not_reserved word t k b =
     let types = map (λ (row : List ℕ × TypeWord). row.0) type_words in
     let keywords = map (λ (row : List ℕ × Keyword). row.0) keyword_table in
     let none : list_any (λ w. bytes_eq w word) (types ++ keywords) ≡ false =
-        list_any-append (λ w. bytes_eq w word) types keywords
-        ∙ or_from (list_any (λ w. bytes_eq w word) types) (list_any (λ w. bytes_eq w word) keywords) (none_among word type_words t) (none_among word keyword_table k) in
+    list_any-append (λ w. bytes_eq w word) types keywords
+    ∙ or_from (list_any (λ w. bytes_eq w word) types) (list_any (λ w. bytes_eq w word) keywords) (none_among word type_words t) (none_among word keyword_table k) in
     or_from (list_any (λ w. bytes_eq w word) reserved_words) (is_block_word word) none b
 
 plain_place : (word : List ℕ) (span : Span) → span_of (plain_word word span) ≡ span
@@ -194,6 +194,7 @@ number_front at b text h =
       spelled = record {
         digits = take n (b ∷ text);
         suffix = take m rest;
+        some_digit = omega (arith, length-take-le n (b ∷ text) few);
         parts = take-add n m (b ∷ text);
         are_digits = run_passes is_digit (b ∷ text);
         are_letters = run_passes is_suffix_letter rest;

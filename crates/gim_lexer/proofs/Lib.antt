@@ -3,3 +3,4 @@ pub mod TableRows
 pub mod Fronts
 pub mod Cutting
 pub mod Steps
+pub mod Placing

@@ -13,10 +13,11 @@ use Rattle.gim_lexer.specs.Numbers.{is_suffix_letter, number_kind}
 use Rattle.gim_lexer.specs.Marks.{short_marks, long_marks}
 use Rattle.gim_lexer.specs.Tokens.{is_inner}
 
--- digits and then a suffix
+-- one digit or more, and then a suffix
 pub record IsNumber (kind : NumberKind) (text : List ℕ) : Type 0 where
   pub digits : List ℕ
   pub suffix : List ℕ
+  pub some_digit : 0 < length digits
   pub parts : text ≡ digits ++ suffix
   pub are_digits : IsTrue (list_all is_digit digits)
   pub are_letters : IsTrue (list_all is_suffix_letter suffix)

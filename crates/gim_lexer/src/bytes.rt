@@ -63,7 +63,9 @@ pub(crate) fn suffix_len(text: &[u8]) -> usize
     ensures run { result ≡ prefix_len is_suffix_letter text.now }
     ensures within { result ≤ length text.now }
 {
-    text.iter().take_while(|byte| is_suffix_letter(**byte)).count()
+    text.iter()
+        .take_while(|byte| is_suffix_letter(**byte))
+        .count()
 }
 
 /// How many bytes a line has at the front.
@@ -79,5 +81,7 @@ pub(crate) fn inner_len(text: &[u8]) -> usize
     ensures run { result ≡ prefix_len is_inner text.now }
     ensures within { result ≤ length text.now }
 {
-    text.iter().take_while(|byte| **byte != b'"' && **byte != b'\n').count()
+    text.iter()
+        .take_while(|byte| **byte != b'"' && **byte != b'\n')
+        .count()
 }

@@ -5,6 +5,7 @@
 #![tactic(auto)]
 
 mod bytes;
+pub mod laws;
 mod marks;
 mod numbers;
 mod pieces;
@@ -55,3 +56,6 @@ pub fn lex(alloc: Global, source: &[u8]) -> Result<Vec<Token>, GimpleFault>
     }
     Ok(tokens)
 }
+
+#[cfg(test)]
+mod tests;

@@ -18,7 +18,9 @@ fn row<'a, T>(table: &'a [Row<T>], bytes: &[u8]) -> Option<&'a Row<T>>
 fn row_in_any_case<'a, T>(table: &'a [Row<T>], bytes: &[u8]) -> Option<&'a Row<T>>
     ensures { option_map (λ row. row.now) result ≡ find (λ row. str_eq_ignore_ascii_case row.0.now bytes.now) table.now }
 {
-    table.iter().find(|row| row.0.as_bytes().eq_ignore_ascii_case(bytes))
+    table
+        .iter()
+        .find(|row| row.0.as_bytes().eq_ignore_ascii_case(bytes))
 }
 
 /// What stands beside these bytes.

@@ -14,7 +14,10 @@ fn place(at: usize, len: usize) -> Span
     requires { at + len < 2 ^ 64 }
     ensures { result ≡ place at len }
 {
-    Span { from: at, to: at + len }
+    Span {
+        from: at,
+        to: at + len,
+    }
 }
 
 /// The word at the front.
@@ -36,7 +39,10 @@ fn number_at(at: usize, text: &[u8]) -> Token
 {
     let (digits, rest) = text.split_at(digits_len(text));
     let (suffix, _) = rest.split_at(suffix_len(rest));
-    Token::Number(number_kind(digits, suffix), place(at, digits.len() + suffix.len()))
+    Token::Number(
+        number_kind(digits, suffix),
+        place(at, digits.len() + suffix.len()),
+    )
 }
 
 /// The text between two `"`, behind the first of them.
