@@ -134,7 +134,7 @@ plain_place word span = by (is_block_word word) (bytes_eq word (codes "ssa")) wh
   by false true = refl
   by false false = refl
 
-word_place : (word : List ℕ) (span : Span) → span_of (word_token word span) ≡ span
+pub word_place : (word : List ℕ) (span : Span) → span_of (word_token word span) ≡ span
 unfolding word_token
 word_place word span = by (type_word_of word) (keyword_of word) where
   by : (t : Option TypeWord) (k : Option Keyword) → span_of (word_from t k word span) ≡ span

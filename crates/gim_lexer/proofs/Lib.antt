@@ -4,3 +4,4 @@ pub mod Fronts
 pub mod Cutting
 pub mod Steps
 pub mod Placing
+pub mod LongestMatch

@@ -1,5 +1,6 @@
 pub mod Cuts
 pub mod Faults
+pub mod Longest
 pub mod Marks
 pub mod Numbers
 pub mod Pieces

@@ -3,6 +3,7 @@
 ghost use Rattle.std.specs.Prelude.{◌≡◌, ℕ, List, length};
 ghost use Rattle.gim_text.specs.declared.token.Token.{Token};
 ghost use Rattle.gim_lexer.specs.Cuts.{AreTokens, IsLexFault};
+ghost use Rattle.gim_lexer.specs.Longest.{IsLongestMatch};
 ghost use Rattle.gim_lexer.specs.Spelled.{AllStandIn, InOrder};
 
 /// A source has one list of tokens at most.
@@ -28,4 +29,9 @@ pub fn all_stand_in()
 /// The tokens stand one behind the other.
 pub fn in_order()
     ensures { (source : List ℕ) (ts : List Token) → AreTokens source ts → InOrder 0 ts (length source) }
+{}
+
+/// No bytes spell a longer token than the one that begins with them.
+pub fn longest()
+    ensures { (source : List ℕ) → IsLongestMatch source }
 {}
