@@ -1,14 +1,14 @@
 -- A source is cut in one way, up to where nothing begins.
-use Rattle.std.proofs.Common.{◌≡◌, ℕ, zero, suc, ◌+◌, ◌-◌, ◌<◌, ◌≤◌, Bool, true, false, List, [], ◌∷◌, ◌++◌, length, drop, Option, Some, None, refl, sym, ap, ◌∙◌, subst, arith}
+use Rattle.std.proofs.Common.{◌≡◌, ℕ, ◌+◌, ◌-◌, ◌<◌, ◌≤◌, Bool, true, false, List, [], ◌∷◌, ◌++◌, length, drop, Option, Some, None, refl, sym, ap, ◌∙◌, subst, arith}
 use Rattle.std.specs.Prelude.{option_map}
 use Rattle.std.proofs.lemmas.List.{drop_all, length-drop, append-nil}
 use Rattle.gim_text.specs.declared.token.Span.{Span}
 use Rattle.gim_text.specs.declared.token.Token.{Token}
 use Rattle.gim_text.specs.Meanings.{span_of}
 use Rattle.gim_lexer.specs.Separators.{separator_length}
-use Rattle.gim_lexer.specs.Tokens.{place, token_of_text}
+use Rattle.gim_lexer.specs.Tokens.{token_of_text}
 use Rattle.gim_lexer.specs.Cuts.{line_begins, separator_at, token_at, Cuts, done, separator, token, AreTokens, IsLexFault}
-use Rattle.gim_lexer.proofs.Fronts.{Front, separator_within, token_front}
+use Rattle.gim_lexer.proofs.Fronts.{separator_within, token_front}
 
 pub cuts_further : (source : List ℕ) (a b c : ℕ) (ts us : List Token) → Cuts source a ts b → Cuts source b us c → Cuts source a (ts ++ us) c
 cuts_further source _ _ c _ us (done at) more = more

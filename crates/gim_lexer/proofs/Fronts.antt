@@ -1,16 +1,15 @@
 -- What begins a text: how long it is, and which bytes it has.
-use Rattle.std.proofs.Common.{◌≡◌, ℕ, zero, suc, ◌+◌, ◌-◌, ◌<◌, ◌≤◌, Bool, true, false, cond, List, [], ◌∷◌, ◌++◌, length, get_or, take, drop, codes, Option, Some, None, refl, sym, ap, ◌∙◌, subst, arith, inl, inr, one-add, add-zero}
-use Rattle.std.specs.Prelude.{IsTrue, option_map, find, map, ◌==◌, ◌||◌, ◌&&◌, not}
-use Rattle.std.specs.List.{prefix_len, starts_with, list_all, list_any}
+use Rattle.std.proofs.Common.{◌≡◌, ℕ, suc, ◌+◌, ◌-◌, ◌<◌, ◌≤◌, Bool, true, false, cond, List, [], ◌∷◌, ◌++◌, length, take, drop, codes, Option, Some, None, refl, sym, ap, ◌∙◌, subst, arith, inl, inr, one-add}
+use Rattle.std.specs.Prelude.{option_map, find, map, ◌==◌, ◌||◌, ◌&&◌, not}
+use Rattle.std.specs.List.{prefix_len, list_all, list_any}
 use Rattle.std.specs.Str.{bytes_eq}
 use Rattle.std.specs.Cmp.Lexicographic.{bytes_decides}
 use Rattle.std.proofs.lemmas.Bool.{and_parts, and_from, or_from, false≢true, eqb-true}
-use Rattle.std.proofs.lemmas.Bool.Decides.{nat_tests}
 use Rattle.std.proofs.lemmas.List.{length-drop, length-take-le}
 use Rattle.std.proofs.lemmas.List.Sums.{prefix_len-le-length}
 use Rattle.std.proofs.lemmas.List.Folds.{list_any-append}
 use Rattle.std.proofs.Math.Seq.{take-add}
-use Rattle.gim_ast.specs.Identifiers.{is_digit, is_letter, is_word_byte, is_word_text, is_block_word, is_reserved, is_identifier, reserved_words}
+use Rattle.gim_ast.specs.Identifiers.{is_digit, is_letter, is_word_byte, is_word_text, is_block_word, is_reserved, reserved_words}
 use Rattle.gim_text.specs.declared.token.Span.{Span}
 use Rattle.gim_text.specs.declared.token.Token.{Token}
 use Rattle.gim_text.specs.declared.token.Token.TheVariants as tokens
@@ -18,13 +17,13 @@ use Rattle.gim_text.specs.declared.token.TypeWord.{TypeWord}
 use Rattle.gim_text.specs.declared.token.Keyword.{Keyword}
 use Rattle.gim_text.specs.declared.token.Mark.{Mark as MarkKind}
 use Rattle.gim_text.specs.Meanings.{span_of}
-use Rattle.gim_lexer.specs.Tables.{meaning_of, beside}
+use Rattle.gim_lexer.specs.Tables.{beside}
 use Rattle.gim_lexer.specs.Words.{type_words, keyword_table, type_word_of, keyword_of, plain_word, word_from, word_token}
-use Rattle.gim_lexer.specs.Numbers.{is_suffix_letter, number_kind}
-use Rattle.gim_lexer.specs.Marks.{short_mark, long_mark, short_marks, long_marks}
+use Rattle.gim_lexer.specs.Numbers.{is_suffix_letter}
+use Rattle.gim_lexer.specs.Marks.{short_mark, long_mark}
 use Rattle.gim_lexer.specs.Separators.{opens, begins_with_space, opens_note, is_no_line_feed, line_length, length_to_star_slash, separator_length}
 use Rattle.gim_lexer.specs.Tokens.{place, is_inner, word_at, number_at, text_at, mark_from, mark_at, token_of_text}
-use Rattle.gim_lexer.specs.Spelled.{IsNumber, IsQuoted, Spells}
+use Rattle.gim_lexer.specs.Spelled.{Spells}
 
 -- ---- runs of bytes
 

@@ -5,3 +5,4 @@ pub mod Cutting
 pub mod Steps
 pub mod Placing
 pub mod LongestMatch
+pub mod NumberTexts

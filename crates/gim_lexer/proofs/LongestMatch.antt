@@ -1,6 +1,6 @@
 -- The token that begins a text is the longest front that spells one.
-use Rattle.std.proofs.Common.{◌≡◌, ℕ, zero, suc, ◌+◌, ◌-◌, ◌<◌, ◌≤◌, Bool, true, false, cond, List, [], ◌∷◌, ◌++◌, length, take, drop, codes, Option, Some, None, refl, sym, ap, ◌∙◌, subst, arith, ◌⊎◌, inl, inr, one-add, map}
-use Rattle.std.specs.Prelude.{IsTrue, option_map, find, ◌==◌, ◌||◌, ◌&&◌, not}
+use Rattle.std.proofs.Common.{◌≡◌, ℕ, zero, suc, ◌+◌, ◌-◌, ◌<◌, ◌≤◌, Bool, true, false, cond, List, [], ◌∷◌, ◌++◌, length, take, drop, codes, Option, Some, None, refl, sym, ap, ◌∙◌, subst, arith, ◌⊎◌, inl, inr, one-add}
+use Rattle.std.specs.Prelude.{option_map, find, ◌==◌, ◌&&◌, not}
 use Rattle.std.specs.List.{prefix_len, list_all}
 use Rattle.std.specs.Str.{bytes_eq}
 use Rattle.std.specs.Cmp.Lexicographic.{bytes_decides}
@@ -14,16 +14,14 @@ use Rattle.gim_text.specs.declared.token.Token.TheVariants as tokens
 use Rattle.gim_text.specs.declared.token.NumberKind.{NumberKind}
 use Rattle.gim_text.specs.declared.token.Mark.{Mark as MarkKind}
 use Rattle.gim_text.specs.Meanings.{span_of}
-use Rattle.gim_text.specs.Texts.{text_of}
-use Rattle.gim_lexer.specs.Tables.{meaning_of, beside}
+use Rattle.gim_lexer.specs.Tables.{beside}
 use Rattle.gim_lexer.specs.Words.{type_words, keyword_table}
 use Rattle.gim_lexer.specs.Numbers.{is_suffix_letter}
 use Rattle.gim_lexer.specs.Marks.{short_mark, long_mark, short_marks, long_marks}
 use Rattle.gim_lexer.specs.Separators.{opens}
 use Rattle.gim_lexer.specs.Tokens.{place, is_inner, word_at, number_at, text_at, mark_from, mark_at, token_of_text}
-use Rattle.gim_lexer.specs.Cuts.{token_at}
 use Rattle.gim_lexer.specs.Spelled.{IsNumber, IsQuoted, Spells}
-use Rattle.gim_lexer.specs.Longest.{IsTokenText, Covers, OpensComment, IsLongestMatch}
+use Rattle.gim_lexer.specs.Longest.{Covers, OpensComment, IsLongestMatch}
 use Rattle.gim_lexer.proofs.Fronts.{word_place}
 
 -- ---- runs

@@ -1,14 +1,13 @@
 -- Tokens stand in their source, one behind the other.
-use Rattle.std.proofs.Common.{◌≡◌, ℕ, ◌+◌, ◌-◌, ◌<◌, ◌≤◌, List, [], ◌∷◌, length, take, drop, Some, refl, sym, ap, ◌∙◌, subst, arith}
+use Rattle.std.proofs.Common.{◌≡◌, ℕ, ◌+◌, ◌-◌, ◌≤◌, List, [], ◌∷◌, length, take, drop, Some, sym, ap, ◌∙◌, subst, arith}
 use Rattle.std.proofs.lemmas.List.{length-drop}
 use Rattle.gim_text.specs.declared.token.Span.{Span}
 use Rattle.gim_text.specs.declared.token.Token.{Token}
 use Rattle.gim_text.specs.Meanings.{span_of}
 use Rattle.gim_text.specs.Texts.{text_of}
-use Rattle.gim_lexer.specs.Tokens.{place}
 use Rattle.gim_lexer.specs.Cuts.{token_at, Cuts, done, separator, token, AreTokens}
 use Rattle.gim_lexer.specs.Spelled.{Spells, StandsIn, AllStandIn, InOrder}
-use Rattle.gim_lexer.proofs.Fronts.{Front, token_front}
+use Rattle.gim_lexer.proofs.Fronts.{token_front}
 use Rattle.gim_lexer.proofs.Cutting.{separator_ends, token_ends}
 
 token_stands : (source : List ℕ) (at : ℕ) (t : Token) → at ≤ length source → token_at source at ≡ Some t → (span_of t).from ≡ at × StandsIn source t

@@ -2,6 +2,7 @@ pub mod Cuts
 pub mod Faults
 pub mod Longest
 pub mod Marks
+pub mod Meant
 pub mod Numbers
 pub mod Pieces
 pub mod Separators

@@ -1,6 +1,5 @@
 -- Longest match, by what tokens spell.
 use Rattle.std.specs.Prelude.{◌≡◌, ◌⊎◌, ℕ, ◌≤◌, IsTrue, Some, List, length, drop, codes}
-use Rattle.gim_text.specs.declared.token.Span.{Span}
 use Rattle.gim_text.specs.declared.token.Token.{Token}
 use Rattle.gim_text.specs.Meanings.{span_of}
 use Rattle.gim_text.specs.Texts.{text_of}

@@ -1,5 +1,5 @@
 -- The token that begins a text, as long as it can be.
-use Rattle.std.specs.Prelude.{ℕ, ◌+◌, ◌==◌, Bool, false, not, ◌&&◌, Option, Some, None, List, [], ◌∷◌, take, drop, codes, if◌then◌else◌}
+use Rattle.std.specs.Prelude.{ℕ, ◌+◌, ◌==◌, Bool, not, ◌&&◌, Option, Some, None, List, [], ◌∷◌, take, drop, codes, if◌then◌else◌}
 use Rattle.std.specs.List.{prefix_len}
 use Rattle.gim_ast.specs.Identifiers.{is_digit, is_letter, is_word_byte}
 use Rattle.gim_text.specs.declared.token.Span.{Span}

@@ -4,6 +4,7 @@ ghost use Rattle.std.specs.Prelude.{◌≡◌, ℕ, List, length};
 ghost use Rattle.gim_text.specs.declared.token.Token.{Token};
 ghost use Rattle.gim_lexer.specs.Cuts.{AreTokens, IsLexFault};
 ghost use Rattle.gim_lexer.specs.Longest.{IsLongestMatch};
+ghost use Rattle.gim_lexer.specs.Meant.{AllMeanTheirTexts};
 ghost use Rattle.gim_lexer.specs.Spelled.{AllStandIn, InOrder};
 
 /// A source has one list of tokens at most.
@@ -24,6 +25,11 @@ pub fn no_tokens()
 /// Each token has bytes in the source, and these spell it.
 pub fn all_stand_in()
     ensures { (source : List ℕ) (ts : List Token) → AreTokens source ts → AllStandIn source ts }
+{}
+
+/// The text of an identifier is an identifier, that of a block's name is one, and that of a number is its digits and a suffix.
+pub fn all_mean_their_texts()
+    ensures { (source : List ℕ) (ts : List Token) → AreTokens source ts → AllMeanTheirTexts source ts }
 {}
 
 /// The tokens stand one behind the other.
