@@ -6,3 +6,4 @@ pub mod Steps
 pub mod Placing
 pub mod LongestMatch
 pub mod NumberTexts
+pub mod Outcome

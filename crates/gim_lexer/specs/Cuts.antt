@@ -1,5 +1,5 @@
 -- A source cut into separators and tokens.
-use Rattle.std.specs.Prelude.{◌≡◌, ℕ, zero, suc, ◌+◌, ◌==◌, ◌<◌, Bool, true, option_map, Option, Some, None, List, [], ◌∷◌, length, drop, slice_index}
+use Rattle.std.specs.Prelude.{◌≡◌, ◌⊎◌, ℕ, zero, suc, ◌+◌, ◌==◌, ◌<◌, Bool, true, option_map, Option, Some, None, List, [], ◌∷◌, length, drop, slice_index}
 use Rattle.gim_text.specs.declared.token.Token.{Token}
 use Rattle.gim_text.specs.Meanings.{span_of}
 use Rattle.gim_lexer.specs.Separators.{separator_length}
@@ -37,3 +37,7 @@ pub record IsLexFault (source : List ℕ) (at : ℕ) : Type 0 where
   pub within : at < length source
   pub no_separator : separator_at source at ≡ None
   pub no_token : token_at source at ≡ None
+
+-- the source has tokens, or a first place where nothing begins
+abbrev pub HasOutcome : List ℕ → Type 0
+HasOutcome source = ((tokens : List Token) × AreTokens source tokens) ⊎ ((at : ℕ) × IsLexFault source at)

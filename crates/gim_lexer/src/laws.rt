@@ -2,10 +2,15 @@
 
 ghost use Rattle.std.specs.Prelude.{◌≡◌, ℕ, List, length};
 ghost use Rattle.gim_text.specs.declared.token.Token.{Token};
-ghost use Rattle.gim_lexer.specs.Cuts.{AreTokens, IsLexFault};
+ghost use Rattle.gim_lexer.specs.Cuts.{AreTokens, IsLexFault, HasOutcome};
 ghost use Rattle.gim_lexer.specs.Longest.{IsLongestMatch};
 ghost use Rattle.gim_lexer.specs.Meant.{AllMeanTheirTexts};
 ghost use Rattle.gim_lexer.specs.Spelled.{AllStandIn, InOrder};
+
+/// A source has tokens or a fault.
+pub fn an_outcome()
+    ensures { (source : List ℕ) → HasOutcome source }
+{}
 
 /// A source has one list of tokens at most.
 pub fn one_list()
