@@ -1,10 +1,10 @@
 -- Types are read exactly.
-use Rattle.std.proofs.Common.{◌≡◌, List, [], ◌∷◌, Some, refl}
+use Rattle.std.proofs.Common.{◌≡◌, List, [], ◌∷◌, None, Some, refl, sym, subst}
 use Rattle.grammar.specs.Spelling.{Begins, Driven}
 use Rattle.grammar.specs.Exact.{IsExact}
 use Rattle.grammar.proofs.Parts.{in_words}
 use Rattle.grammar.proofs.Machine.{driven}
-use Rattle.pm_wide.specs.Types.{bool_type, int_type}
+use Rattle.pm_wide.specs.Types.{Ty, bool_type, int_type}
 use Rattle.gim_text.specs.declared.fault.Part.{Part}
 use Rattle.gim_text.specs.declared.token.Token.{Token}
 use Rattle.gim_text.specs.declared.token.Token.TheVariants as tokens
@@ -42,3 +42,18 @@ pub type_exact : (part : Part) (input : List Token) → IsExact SpellsType GoesO
 type_exact part input =
     in_words (Driven type_words_after type_of (SaysInteger NoSign NoSize)) SpellsType GoesOnType input (type_at part input) type_of_machine machine_of_type
     (driven type_words_after type_of part GoesOnType only_words completed (SaysInteger NoSign NoSize) input)
+
+-- a type has a word
+pub type_not_empty : (t : Ty) → SpellsType t [] → ⊥
+type_not_empty t spelled = no_word (machine_of_type t [] spelled)
+  where
+    no_word : Driven type_words_after type_of (SaysInteger NoSign NoSize) t [] → ⊥
+    no_word (end, same, is) =
+        let none : None ≡ Some t = subst (λ s. type_of s ≡ Some t) (sym same) is in
+        cc
+
+-- and begins with one
+pub type_begins : (t : Ty) (first : Token) (w : List Token) → SpellsType t (first ∷ w) → GoesOnType first
+type_begins t first w spelled =
+    let led = (machine_of_type t (first ∷ w) spelled).1 in
+    only_words (SaysInteger NoSign NoSize) first led.0 led.1
