@@ -1,1 +1,2 @@
 pub mod OperandExact
+pub mod RightExact

@@ -90,11 +90,11 @@ name_is (tokens.Identifier at) x e = tt
 name_is (tokens.Ssa at) x e = tt
 name_is t x e = absurd (cc)
 
-open_is : (t : Token) (x : Span) → mark marks.Open t ≡ Some x → IsOpen t
+pub open_is : (t : Token) (x : Span) → mark marks.Open t ≡ Some x → IsOpen t
 open_is (tokens.Mark marks.Open at) x e = tt
 open_is t x e = absurd (cc)
 
-number_is : (t : Token) (x : LiteralType × Span) → literal_number t ≡ Some x → IsNumber t
+pub number_is : (t : Token) (x : LiteralType × Span) → literal_number t ≡ Some x → IsNumber t
 number_is (tokens.Number kind at) x e = tt
 number_is t x e = absurd (cc)
 
@@ -185,7 +185,7 @@ bare_spelled : (ty : LiteralType) (negative : Bool) (at : Span) (w : List Token)
 bare_spelled (Written ty) negative at w s = absurd (no_written ty negative at w s)
 bare_spelled ty negative at w s = s
 
-literal_word_begun : (ty : Ty) (negative : Bool) (at : Span) (w : List Token) → SpellsConstant (Written ty) negative at w → Begun IsLiteralWord w
+pub literal_word_begun : (ty : Ty) (negative : Bool) (at : Span) (w : List Token) → SpellsConstant (Written ty) negative at w → Begun IsLiteralWord w
 literal_word_begun ty negative at w (u, v, (p, word), others, cut) = front_begun IsLiteralWord u v w (meant_begun (keyword keywords.Literal) IsLiteralWord literal_word_is p u word) cut
 
 minus_starts : (t : Token) → IsMinus t → StartsNumber t
@@ -234,7 +234,7 @@ some_constant = record { value = bare some_signed_number.value; after = some_sig
     some_signed_number : Begins (SpellsSigned literal_number) []
     some_signed_number = some_signed literal_number some_literal_number number_is (λ t. ⊥)
 
-type_reads : Reads SpellsType GoesOnType (type_at InBlock)
+pub type_reads : Reads SpellsType GoesOnType (type_at InBlock)
 type_reads = record { some = some_type; exact = λ input. type_exact InBlock input }
 
 pub close_not_in_type : (t : Token) → GoesOnType t → mark marks.Close t ≡ None
@@ -384,7 +384,7 @@ named_spelled x w (name, u, v, first, inr (o, u1, v1, opened, (d, u2, v2, word_d
     subst (λ k. SpellsOperand k w) (sym same)
     (u, v, first, (u1, v1, (o, opened), (u2, v2, (d, word_d), (k, subst (λ l. Meant (mark marks.Close) k l) (sym (cut3 ∙ ap (λ l. u3 ++ l) empty ∙ append-nil u3)) close), cut2), cut1), cut)
 
-name_begun : (name : Span) (w : List Token) → Meant identifier name w → Begun IsName w
+pub name_begun : (name : Span) (w : List Token) → Meant identifier name w → Begun IsName w
 name_begun name w first = meant_begun identifier IsName name_is name w first
 
 -- operands
