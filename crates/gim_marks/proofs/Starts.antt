@@ -109,3 +109,25 @@ after_first {T = T} {A = A} N more t rest answer some exact = by_front exact.fro
               stops h after e (record { value = b.value; after = b.after; spelled = subst (λ k. N b.value (k ∷ (front ++ h ∷ []) ++ b.after)) same b.spelled });
           only = λ x u v spelled e far. exact.only x (t ∷ u) v spelled (ap (λ l. t ∷ l) e) far;
         }
+
+-- One of two parts, which the first token tells apart.
+abbrev pub Either : {T A : Type 0} → Spelling T A → Spelling T A → Spelling T A
+Either N M x w = N x w ⊎ M x w
+
+pub left_of : {T E A : Type 0} (N M : Spelling T A) (more first : T → Type 0) → ((x : A) (w : List T) → M x w → Begun first w) → Begins N []
+    → (tokens : List T) (answer : Answer T E A) → ¬ Begun first tokens → IsExact N more tokens answer → IsExact (Either N M) more tokens answer
+left_of {T = T} {A = A} N M more first begun some tokens answer none exact =
+    parts.starting_so N (Either N M) more tokens answer (record { value = some.value; after = some.after; spelled = inl some.spelled }) (λ x w s start. inl s) back exact
+  where
+    back : (x : A) (w : List T) → Either N M x w → SameStart tokens w → N x w
+    back x w (inl s) start = s
+    back x w (inr s) start = absurd (none (same_begun first tokens w start (begun x w s)))
+
+pub right_of : {T E A : Type 0} (N M : Spelling T A) (more first : T → Type 0) → ((x : A) (w : List T) → N x w → Begun first w) → Begins M []
+    → (tokens : List T) (answer : Answer T E A) → ¬ Begun first tokens → IsExact M more tokens answer → IsExact (Either N M) more tokens answer
+right_of {T = T} {A = A} N M more first begun some tokens answer none exact =
+    parts.starting_so M (Either N M) more tokens answer (record { value = some.value; after = some.after; spelled = inr some.spelled }) (λ x w s start. inr s) back exact
+  where
+    back : (x : A) (w : List T) → Either N M x w → SameStart tokens w → M x w
+    back x w (inl s) start = absurd (none (same_begun first tokens w start (begun x w s)))
+    back x w (inr s) start = s

@@ -1,2 +1,3 @@
 pub mod OperandExact
 pub mod RightExact
+pub mod ItemExact

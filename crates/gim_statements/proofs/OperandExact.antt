@@ -85,7 +85,7 @@ literal_word_is : (t : Token) (x : Span) → keyword keywords.Literal t ≡ Some
 literal_word_is (tokens.Keyword keywords.Literal at) x e = tt
 literal_word_is t x e = absurd (cc)
 
-name_is : (t : Token) (x : Span) → identifier t ≡ Some x → IsName t
+pub name_is : (t : Token) (x : Span) → identifier t ≡ Some x → IsName t
 name_is (tokens.Identifier at) x e = tt
 name_is (tokens.Ssa at) x e = tt
 name_is t x e = absurd (cc)

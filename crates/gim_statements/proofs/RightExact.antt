@@ -235,7 +235,7 @@ data Sort (x : RightForm) (w : List Token) : Type 0 where
   a_cast : CastForm x w → Sort x w
 
 -- a last mark with nothing after it
-ends : (P : List Token → Type 0) (u v w : List Token) → P u → v ≡ [] → w ≡ u ++ v → P w
+pub ends : (P : List Token → Type 0) (u v w : List Token) → P u → v ≡ [] → w ≡ u ++ v → P w
 ends P u v w p empty cut = subst P (sym (cut ∙ ap (λ l. u ++ l) empty ∙ append-nil u)) p
 
 sort_of : (x : RightForm) (w : List Token) → SpellsForm x w → Sort x w
