@@ -69,11 +69,11 @@ further_reads =
     back : (x : ArgText) (w : List Token) → SpellsFurtherArg x w → Then (Meant (mark marks.Comma)) (λ m. SpellsArg) x w
     back x w (u, v, (m, comma), s, cut) = (m, u, v, comma, s, cut)
 
-abbrev IsComma : Token → Type 0
+abbrev pub IsComma : Token → Type 0
 IsComma (tokens.Mark marks.Comma at) = Unit {0}
 IsComma t = ⊥
 
-comma_is : (t : Token) (x : Span) → mark marks.Comma t ≡ Some x → IsComma t
+pub comma_is : (t : Token) (x : Span) → mark marks.Comma t ≡ Some x → IsComma t
 comma_is (tokens.Mark marks.Comma at) x e = tt
 comma_is t x e = absurd (cc)
 

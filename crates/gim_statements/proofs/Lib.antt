@@ -1,3 +1,5 @@
 pub mod OperandExact
 pub mod RightExact
 pub mod ItemExact
+pub mod EndExact
+pub mod BlockExact
