@@ -1,5 +1,5 @@
-pub mod OperandExact
-pub mod RightExact
-pub mod ItemExact
-pub mod EndExact
-pub mod BlockExact
+pub mod OperandsExact
+pub mod RightsExact
+pub mod ItemsExact
+pub mod EndsExact
+pub mod BlocksExact

@@ -35,7 +35,7 @@ use Rattle.gim_statements.specs.Words.{prefix_code, infix_code, call_code, liter
 use Rattle.gim_statements.specs.Grammar.{BeginsAt, Signed, SpellsConstant, SpellsOperand, BeginsWithNoNumber, MayStandUnder, SpellsForm, SpellsRight}
 use Rattle.gim_statements.specs.OperandReaders.{operand_at}
 use Rattle.gim_statements.specs.RightReaders.{prefixed_at, cast_at, call_at, choice_at, operated, continued_at, infix_at, form_at, right_at}
-use Rattle.gim_statements.proofs.OperandExact.{IsOpen, IsMinus, IsName, IsNumber, StartsOperand, open_is, number_is, minus_is, name_begun, literal_word_begun, some_operand, operand_begun, operand_reads, type_reads, close_not_in_type, placed_exact}
+use Rattle.gim_statements.proofs.OperandsExact.{IsOpen, IsMinus, IsName, IsNumber, StartsOperand, open_is, number_is, minus_is, name_begun, literal_word_begun, some_operand, operand_begun, operand_reads, type_reads, close_not_in_type, placed_exact}
 
 -- what can go on a form: `(` after a name, an operator, `?`
 abbrev pub GoesOnForm : Token → Type 0

@@ -29,8 +29,8 @@ use Rattle.gim_statements.specs.Grammar.{SpellsOperand, SpellsRight, SpellsArg, 
 use Rattle.gim_statements.specs.OperandReaders.{operand_at}
 use Rattle.gim_statements.specs.RightReaders.{right_at}
 use Rattle.gim_statements.specs.ItemReaders.{arg_at, further_arg_at, args_at, phi_at, statement_at, assigned_at, item_at}
-use Rattle.gim_statements.proofs.OperandExact.{IsOpen, IsName, name_is, operand_reads}
-use Rattle.gim_statements.proofs.RightExact.{GoesOnForm, ends, right_reads, right_no_phi}
+use Rattle.gim_statements.proofs.OperandsExact.{IsOpen, IsName, name_is, operand_reads}
+use Rattle.gim_statements.proofs.RightsExact.{GoesOnForm, ends, right_reads, right_no_phi}
 
 -- arguments
 

@@ -28,9 +28,9 @@ use Rattle.gim_marks.proofs.BalancedExact.{closing_reads}
 use Rattle.gim_statements.specs.Grammar.{SpellsItem, SpellsNote, SpellsEndIfAny, SpellsBlock, GoesOnBlock}
 use Rattle.gim_statements.specs.ItemReaders.{item_at}
 use Rattle.gim_statements.specs.BlockReaders.{note_at, further_item_at, items_at, end_at, block_at}
-use Rattle.gim_statements.proofs.OperandExact.{IsName}
-use Rattle.gim_statements.proofs.ItemExact.{IsComma, comma_is, item_reads, item_begun}
-use Rattle.gim_statements.proofs.EndExact.{StartsEnd, end_begun, end_reads}
+use Rattle.gim_statements.proofs.OperandsExact.{IsName}
+use Rattle.gim_statements.proofs.ItemsExact.{IsComma, comma_is, item_reads, item_begun}
+use Rattle.gim_statements.proofs.EndsExact.{StartsEnd, end_begun, end_reads}
 
 -- notes
 

@@ -29,8 +29,8 @@ use Rattle.gim_statements.specs.Words.{comparison_code}
 use Rattle.gim_statements.specs.Grammar.{SpellsOperand, SpellsJumpEnd, SpellsJump, SpellsEnd, SpellsEndIfAny, GoesOnBlock}
 use Rattle.gim_statements.specs.OperandReaders.{operand_at}
 use Rattle.gim_statements.specs.BlockReaders.{jump_end_at, jump_at, if_at, return_at, end_at}
-use Rattle.gim_statements.proofs.OperandExact.{IsOpen, open_is, operand_reads}
-use Rattle.gim_statements.proofs.RightExact.{close_apart, ends}
+use Rattle.gim_statements.proofs.OperandsExact.{IsOpen, open_is, operand_reads}
+use Rattle.gim_statements.proofs.RightsExact.{close_apart, ends}
 
 -- jumps
 
