@@ -1,6 +1,6 @@
 -- Items in a loop, each put at the end of a list.
-use Rattle.std.proofs.Common.{◌≡◌, ℕ, List, [], ◌∷◌, ◌++◌, length, Option, Some, None, Ok, refl, sym, ap, subst, ◌∙◌, arith}
-use Rattle.grammar.specs.Spelling.{Spelling, Begins, Mapped, Steps, stays, goes, Item}
+use Rattle.std.proofs.Common.{◌≡◌, List, [], ◌∷◌, ◌++◌, length, Option, Some, None, Ok, refl, sym, subst, ◌∙◌, arith}
+use Rattle.grammar.specs.Spelling.{Spelling, Mapped, Steps, stays, goes, Item}
 use Rattle.grammar.specs.Reading.{Answer, ◌>>=◌, steps_at}
 use Rattle.grammar.specs.Exact.{IsApart, IsExact}
 use Rattle.grammar.proofs.Parts as parts
