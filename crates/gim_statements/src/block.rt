@@ -35,10 +35,7 @@ fn begins_item(tokens: &[Token]) -> bool
 }
 
 /// The phis and statements from here on, as many as there are.
-fn read_items(
-    alloc: Global,
-    tokens: &[Token],
-) -> Result<(Items<ItemText>, &[Token]), TokenStop<'_>>
+fn read_items(alloc: Global, tokens: &[Token]) -> Result<(Items<ItemText>, &[Token]), TokenStop<'_>>
     ensures reads { GivesInMemory (λ x. (x.0, x.1.now)) result (readers.items_at tokens.now) }
     ensures no_longer { IfOk result (λ x. length x.1.now ≤ length tokens.now) }
 {
@@ -55,10 +52,7 @@ fn read_items(
 /// A block, from `__BB` to its end, and the tokens after it. A fault stands at the first token with which the tokens
 /// so far begin no block.
 #[tactic(auto, using(crate::proofs::BlocksExact::block_exact))]
-pub fn read_block(
-    alloc: Global,
-    tokens: &[Token],
-) -> Result<(BlockText, &[Token]), TokenStop<'_>>
+pub fn read_block(alloc: Global, tokens: &[Token]) -> Result<(BlockText, &[Token]), TokenStop<'_>>
     ensures reads { GivesInMemory (λ x. (x.0, x.1.now)) result (readers.block_at tokens.now) }
     // What is read is the longest block there, and a fault is the first.
     ensures exact { IsExact SpellsBlock GoesOnBlock tokens.now (readers.block_at tokens.now) }

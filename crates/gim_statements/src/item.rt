@@ -7,9 +7,7 @@ ghost use Rattle.gim_statements.specs.ItemReaders as readers;
 use crate::operand::read_operand;
 use crate::right::read_right;
 use gim_marks::{read_block_word, read_mark, read_name};
-use gim_text::{
-    ArgText, ItemText, Keyword, Mark, Part, Span, Token, TokenFault, TokenStop,
-};
+use gim_text::{ArgText, ItemText, Keyword, Mark, Part, Span, Token, TokenFault, TokenStop};
 use pm_items::Items;
 use std::alloc::Global;
 
@@ -36,10 +34,7 @@ fn after_comma(tokens: &[Token]) -> Option<&[Token]>
 }
 
 /// The arguments of a phi, one or more.
-fn read_args(
-    alloc: Global,
-    tokens: &[Token],
-) -> Result<(Items<ArgText>, &[Token]), TokenStop<'_>>
+fn read_args(alloc: Global, tokens: &[Token]) -> Result<(Items<ArgText>, &[Token]), TokenStop<'_>>
     ensures reads { GivesInMemory (λ x. (x.0, x.1.now)) result (readers.args_at tokens.now) }
     ensures shorter { IfOk result (λ x. length x.1.now < length tokens.now) }
 {
@@ -71,10 +66,7 @@ fn read_phi(
 }
 
 /// What stands after the `name =` of a statement.
-fn read_statement(
-    name: Span,
-    tokens: &[Token],
-) -> Result<(ItemText, &[Token]), TokenStop<'_>>
+fn read_statement(name: Span, tokens: &[Token]) -> Result<(ItemText, &[Token]), TokenStop<'_>>
     ensures reads { GivesInMemory (λ x. (x.0, x.1.now)) result (readers.statement_at name tokens.now) }
     ensures shorter { IfOk result (λ x. length x.1.now < length tokens.now) }
 {
