@@ -1,0 +1,1 @@
+//! What holds of a file without a fault of names.
