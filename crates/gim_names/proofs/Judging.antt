@@ -1,6 +1,6 @@
 -- Judging mentions and functions one after another.
-use Rattle.std.proofs.Common.{◌≡◌, ℕ, Bool, true, false, List, [], ◌∷◌, Option, Some, None, option_map, refl, sym, ap, subst, ◌∙◌}
-use Rattle.std.specs.Prelude.{◌||◌, if◌then◌else◌, map}
+use Rattle.std.proofs.Common.{◌≡◌, ℕ, Bool, true, false, List, [], ◌∷◌, Option, Some, None, Result, Ok, Err, option_map, refl, sym, ap, subst, ◌∙◌}
+use Rattle.std.specs.Prelude.{IsErrAnd, ◌||◌, if◌then◌else◌, map}
 use Rattle.std.specs.Borrow.{Bor}
 use Rattle.std.specs.HashSet.{HashSet}
 use Rattle.std.specs.List.{list_any}
@@ -10,8 +10,9 @@ use Rattle.gim_text.specs.declared.fault.GimpleFault.{GimpleFault}
 use Rattle.gim_text.specs.declared.fault.GimpleKind.{GimpleKind}
 use Rattle.gim_text.specs.declared.fault.GimpleKind.TheVariants.{Memory, Lex, Syntax, Unsupported, Redefined, Undeclared, WideLiteral, MissingBlock, BadPhi, NoReturn, TypeMismatch, TooLarge}
 use Rattle.gim_text.specs.declared.tree.FunctionText.{FunctionText}
-use Rattle.gim_text.specs.Faults.{fault_at, or_fault, IsFault}
+use Rattle.gim_text.specs.Faults.{fault_at, or_fault, IsFault, Judges}
 use Rattle.gim_names.specs.declared.mention.Mention.{Mention}
+use Rattle.gim_names.specs.declared.mention.Mention.TheVariants.{Param}
 use Rattle.gim_names.specs.declared.past.Past.{Past}
 use Rattle.gim_names.specs.Mentions.{place_of, mentions_of}
 use Rattle.gim_names.specs.Parts.{all_said, version_base, base_default}
@@ -50,7 +51,15 @@ is_fault_of NoReturn fault near far goes e = goes e
 is_fault_of TypeMismatch fault near far goes e = goes e
 is_fault_of TooLarge fault near far goes e = goes e
 
+pub judges_err : {X : Type 0} (r : Result X GimpleFault) (fault : GimpleFault) (expected : Option GimpleFault) → IsErrAnd r (λ e. e ≡ fault) → IsFault fault.kind fault expected → Judges expected r
+judges_err (Ok x) fault expected h is = absurd h
+judges_err (Err e) fault expected h is = subst (λ (f : GimpleFault). IsFault f.kind f expected) (sym h) is
+
 -- ---- mentions
+
+-- what stands outside a list of mentions
+abbrev pub outside : Mention
+outside = Param (record { from = 0; to = 0 })
 
 not_redefined : (r u w : Bool) → first_kind r u w ≡ None → r ≡ false
 not_redefined true u w e = absurd cc

@@ -1,2 +1,3 @@
+pub mod OrLemmas
 pub mod TableLemmas
 pub mod Judging

@@ -2,6 +2,7 @@
 use Rattle.std.proofs.Common.{◌≡◌, ℕ, zero, suc, ◌+◌, ◌-◌, ◌<◌, ◌≤◌, Bool, true, false, cond, List, [], ◌∷◌, length, get_or, drop, drop-cons, add-one, Option, Some, None, option_map, refl, sym, ap, subst, ◌∙◌, arith}
 use Rattle.std.specs.Prelude.{not, ◌||◌, ◌&&◌}
 use Rattle.std.specs.Borrow.{Bor}
+use Rattle.std.specs.HashSet.{HashSet}
 use Rattle.std.specs.List.{list_any}
 use Rattle.std.specs.Map.{lookup}
 use Rattle.std.specs.Cmp.Lexicographic.{nat_list_eq_equiv, bytes_decides}
@@ -9,7 +10,7 @@ use Rattle.std.proofs.lemmas.Bool.{and_parts, and_from, not-true, not_from_true,
 use Rattle.gim_ast.specs.WellFormed.{same_text}
 use Rattle.gim_names.specs.Parts.{with_some}
 use Rattle.gim_names.specs.Rules.{parts_company, differs}
-use Rattle.gim_names.specs.Tables.{have_one_each}
+use Rattle.gim_names.specs.Tables.{HasTexts, have_one_each}
 
 pub same_text_symm : (a b : List ℕ) → same_text a b ≡ same_text b a
 same_text_symm a b = nat_list_eq_equiv.symm a b
@@ -71,15 +72,12 @@ one_more (Some p) pairs d one = and_from (not (list_any (parts_company p.0 p.1) 
 
 -- ---- places
 
-pub item_at : {X : Type 0} (xs : List X) (i : ℕ) (x : X) → i < length xs → x ≡ get_or xs i x → drop i xs ≡ x ∷ drop (i + 1) xs
-item_at xs i x lt is = rw add-one (drop-cons xs i x lt ∙ ap (λ y. y ∷ drop (suc i) xs) (sym is))
+pub item_at : {X : Type 0} (xs : List X) (i : ℕ) (d : X) → i < length xs → drop i xs ≡ get_or xs i d ∷ drop (i + 1) xs
+item_at xs i d lt = rw add-one (drop-cons xs i d lt)
 
-pub drop_before : {X : Type 0} (xs : List X) (at : ℕ) (x : X) → 0 < at → at ≤ length xs → x ≡ get_or xs (at - 1) x → drop (at - 1) xs ≡ x ∷ drop at xs
-drop_before xs zero x some within is = absurd (omega arith)
-drop_before xs (suc at) x some within is =
-    let e : suc at - 1 ≡ at = omega arith in
-    let here : x ≡ get_or xs at x = subst (λ i. x ≡ get_or xs i x) e is in
-    rw e (drop-cons xs at x (omega arith) ∙ ap (λ y. y ∷ drop (suc at) xs) (sym here))
+pub item_before : {X : Type 0} (xs : List X) (at : ℕ) (d : X) → 0 < at → at ≤ length xs → drop (at - 1) xs ≡ get_or xs (at - 1) d ∷ drop at xs
+item_before xs zero d some within = absurd (omega arith)
+item_before xs (suc at) d some within = let e : suc at - 1 ≡ at = omega arith in rw e (drop-cons xs at d (omega arith))
 
 pub drop_all : {X : Type 0} (xs : List X) → drop (length xs) xs ≡ []
 drop_all [] = refl
@@ -90,3 +88,9 @@ drop_past [] zero le = refl
 drop_past [] (suc i) le = refl
 drop_past (x ∷ xs) zero le = absurd (omega arith)
 drop_past (x ∷ xs) (suc i) le = drop_past xs i (omega arith)
+
+pub none_has : {S : Type 0} (set : HashSet (Bor (List ℕ)) S) → set.keys ≡ [] → HasTexts set []
+none_has set e q = rw e refl
+
+pub item_is : {X : Type 0} (xs : List X) (i : ℕ) (x : X) → i < length xs → x ≡ get_or xs i x → drop i xs ≡ x ∷ drop (i + 1) xs
+item_is xs i x lt is = item_at xs i x lt ∙ ap (λ y. y ∷ drop (i + 1) xs) (sym is)

@@ -13,9 +13,8 @@ use crate::parts::{
 };
 use crate::past::Past;
 use crate::scope::Scope;
-use crate::standins::text;
 use crate::tables::{differs, stands};
-use gim_text::{GimpleKind, Span};
+use gim_text::{GimpleKind, Span, text};
 
 /// Whether a parameter, local or block of this identifier or number stood before.
 fn is_declared_again(source: &[u8], past: &Past, mention: &Mention) -> bool

@@ -11,7 +11,6 @@ mod mentions;
 mod parts;
 mod past;
 mod scope;
-mod standins;
 mod tables;
 
 ghost use Rattle.std.specs.Prelude.{◌≡◌};
@@ -24,8 +23,7 @@ use crate::mention::Mention;
 use crate::mentions::mentions;
 use crate::past::Past;
 use crate::scope::Scope;
-use crate::standins::text;
-use gim_text::{FunctionText, GimpleFault, GimpleKind};
+use gim_text::{FunctionText, GimpleFault, GimpleKind, text};
 use std::alloc::Global;
 use std::collections::HashSet;
 
@@ -45,11 +43,7 @@ fn check_mentions(alloc: Global, source: &[u8], mentions: &[Mention]) -> Result<
 }
 
 /// Judges what stands in a function behind its name.
-fn check_function(
-    alloc: Global,
-    source: &[u8],
-    function: &FunctionText,
-) -> Result<(), GimpleFault>
+fn check_function(alloc: Global, source: &[u8], function: &FunctionText) -> Result<(), GimpleFault>
     ensures { Judges (mentions_fault source.now (mentions_of source.now function.now)) result }
 {
     let mentions = mentions(alloc, source, function)?;

@@ -5,9 +5,8 @@ ghost use Rattle.std.specs.List.{flat_map};
 ghost use Rattle.gim_names.specs.Mentions.{mention_of_param, mention_of_local, mention_of_operand, mention_of_arg, mentions_of_right, mentions_of_item, mentions_of_end, mentions_of_block, mentions_of};
 
 use crate::mention::Mention;
-use crate::standins::literal;
 use gim_text::{
-    ArgText, BlockText, DeclText, EndText, FunctionText, ItemText, OperandText, RightForm,
+    ArgText, BlockText, DeclText, EndText, FunctionText, ItemText, OperandText, RightForm, literal,
 };
 use pm_ops::OutOfMemory;
 use std::alloc::Global;
@@ -129,7 +128,11 @@ fn push_block(out: &mut Vec<Mention>, source: &[u8], block: &BlockText) -> Resul
 }
 
 /// Adds blocks.
-fn push_blocks(out: &mut Vec<Mention>, source: &[u8], blocks: &[BlockText]) -> Result<(), OutOfMemory>
+fn push_blocks(
+    out: &mut Vec<Mention>,
+    source: &[u8],
+    blocks: &[BlockText],
+) -> Result<(), OutOfMemory>
     ensures { OnOk result (out.new.items ≡ out.old.items ++ flat_map (mentions_of_block source.now) blocks.now) }
 {
     for block in blocks {
@@ -139,7 +142,11 @@ fn push_blocks(out: &mut Vec<Mention>, source: &[u8], blocks: &[BlockText]) -> R
 }
 
 /// The mentions of a function.
-pub(crate) fn mentions(alloc: Global, source: &[u8], function: &FunctionText) -> Result<Vec<Mention>, OutOfMemory>
+pub(crate) fn mentions(
+    alloc: Global,
+    source: &[u8],
+    function: &FunctionText,
+) -> Result<Vec<Mention>, OutOfMemory>
     ensures { IfOk result (λ out. out.items ≡ mentions_of source.now function.now) }
 {
     let mut out = Vec::new(alloc);

@@ -5,8 +5,7 @@ ghost use Rattle.gim_text.specs.Texts.{name_parts, text_of};
 ghost use Rattle.gim_names.specs.Parts as parts;
 
 use crate::mention::Mention;
-use crate::standins::{name_parts, text};
-use gim_text::Span;
+use gim_text::{Span, name_parts, text};
 
 /// The base and the version of a name.
 pub(crate) fn parts_at(source: &[u8], at: Span) -> Option<(&[u8], &[u8])>
@@ -126,10 +125,7 @@ pub(crate) fn default_version<'a>(source: &'a [u8], mention: &Mention) -> Option
 }
 
 /// The version and the base of a name, or of a local that is an anonymous name.
-pub(crate) fn version_base<'a>(
-    source: &'a [u8],
-    mention: &Mention,
-) -> Option<(&'a [u8], &'a [u8])>
+pub(crate) fn version_base<'a>(source: &'a [u8], mention: &Mention) -> Option<(&'a [u8], &'a [u8])>
     ensures { option_map (λ x. (x.0.now, x.1.now)) result ≡ parts.version_base source.now mention.now }
 {
     match mention {
@@ -142,10 +138,7 @@ pub(crate) fn version_base<'a>(
 }
 
 /// The base and the version of a default definition.
-pub(crate) fn base_default<'a>(
-    source: &'a [u8],
-    mention: &Mention,
-) -> Option<(&'a [u8], &'a [u8])>
+pub(crate) fn base_default<'a>(source: &'a [u8], mention: &Mention) -> Option<(&'a [u8], &'a [u8])>
     ensures { option_map (λ x. (x.0.now, x.1.now)) result ≡ parts.base_default source.now mention.now }
 {
     match mention {
