@@ -1,6 +1,6 @@
 -- Judging mentions and functions one after another.
 use Rattle.std.proofs.Common.{◌≡◌, ℕ, Bool, true, false, List, [], ◌∷◌, Option, Some, None, Result, Ok, Err, option_map, refl, sym, ap, subst, ◌∙◌}
-use Rattle.std.specs.Prelude.{IsErrAnd, ◌||◌, if◌then◌else◌, map}
+use Rattle.std.specs.Prelude.{IsErrAnd, if◌then◌else◌, map}
 use Rattle.std.specs.Borrow.{Bor}
 use Rattle.std.specs.HashSet.{HashSet}
 use Rattle.std.specs.List.{list_any}

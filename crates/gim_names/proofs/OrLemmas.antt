@@ -1,5 +1,5 @@
 -- A choice of two tests, the second asked only where the first fails.
-use Rattle.std.proofs.Common.{◌≡◌, Bool, true, false, refl, sym, ◌∙◌}
+use Rattle.std.proofs.Common.{◌≡◌, Bool, true, false}
 use Rattle.std.specs.Prelude.{◌||◌}
 
 pub or_first : (a b x : Bool) → x ≡ a → x ≡ true → x ≡ (a || b)

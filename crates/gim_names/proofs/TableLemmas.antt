@@ -6,7 +6,7 @@ use Rattle.std.specs.HashSet.{HashSet}
 use Rattle.std.specs.List.{list_any}
 use Rattle.std.specs.Map.{lookup}
 use Rattle.std.specs.Cmp.Lexicographic.{nat_list_eq_equiv, bytes_decides}
-use Rattle.std.proofs.lemmas.Bool.{and_parts, and_from, not-true, not_from_true, not_from_false}
+use Rattle.std.proofs.lemmas.Bool.{and_parts, and_from, not-true, not_from_false}
 use Rattle.gim_ast.specs.WellFormed.{same_text}
 use Rattle.gim_names.specs.Parts.{with_some}
 use Rattle.gim_names.specs.Rules.{parts_company, differs}

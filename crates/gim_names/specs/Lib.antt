@@ -3,3 +3,4 @@ pub mod Parts
 pub mod Rules
 pub mod NamesFault
 pub mod Tables
+pub mod Kept

@@ -2,14 +2,14 @@
 use Rattle.std.specs.Prelude.{ℕ, Option, Some, None, option_map, List, [], ◌∷◌}
 use Rattle.gim_text.specs.Texts.{text_of, name_parts}
 use Rattle.gim_names.specs.declared.mention.Mention.{Mention}
-use Rattle.gim_names.specs.declared.mention.Mention.TheVariants.{Param, Local, Block, Assigned, Used, UsedDefault, Constant}
+use Rattle.gim_names.specs.declared.mention.Mention.TheVariants.{Param, Local, Block, Assigned, Used, UsedDefault}
 
--- what mentions say, in their order
+-- what the things of a list say, in their order: something or nothing
 abbrev pub with_some : {X : Type 0} → Option X → List X → List X
 with_some None xs = xs
 with_some (Some x) xs = x ∷ xs
 
-abbrev pub all_said : {X : Type 0} → (Mention → Option X) → List Mention → List X
+abbrev pub all_said : {M X : Type 0} → (M → Option X) → List M → List X
 all_said says [] = []
 all_said says (m ∷ ms) = with_some (says m) (all_said says ms)
 
