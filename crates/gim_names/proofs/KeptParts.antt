@@ -13,7 +13,7 @@ use Rattle.gim_names.specs.declared.mention.Mention.{Mention}
 use Rattle.gim_names.specs.declared.mention.Mention.TheVariants.{Block}
 use Rattle.gim_names.specs.Mentions.{mention_of_param, mention_of_local, mentions_of_item, mentions_of_end, mentions_of_block, mentions_of}
 use Rattle.gim_names.specs.Parts.{with_some, all_said, version_base, base_default}
-use Rattle.gim_names.specs.Rules.{parts_company}
+use Rattle.gim_names.specs.Rules.{has_other_second}
 use Rattle.gim_names.specs.Tables.{have_one_each}
 use Rattle.gim_names.specs.Kept.{locals_of, params_of, assigned_of, is_declared, has_word, KeepsNames, BlockKeepsNames, AreOne}
 
@@ -57,28 +57,28 @@ said_has says (n ∷ ms) m x (zero, lt, is) e = subst (λ o. Contains (with_some
 said_has says (n ∷ ms) m x (suc k, lt, is) e = contains_later (says n) (all_said says ms) x (said_has says ms m x (k, omega (arith, lt), is) e)
 
 -- no pair of the list has this first part and another second part
-same_second : (p q : List ℕ × List ℕ) (pairs : List (List ℕ × List ℕ)) → list_any (parts_company p.0 p.1) pairs ≡ false → Contains pairs q → p.0 ≡ q.0 → p.1 ≡ q.1
+same_second : (p q : List ℕ × List ℕ) (pairs : List (List ℕ × List ℕ)) → list_any (has_other_second p.0 p.1) pairs ≡ false → Contains pairs q → p.0 ≡ q.0 → p.1 ≡ q.1
 same_second p q [] none c e = absurd (omega (arith, c.1))
 same_second p q (r ∷ pairs) none (zero, lt, is) e =
-    let t = (or_parts (parts_company p.0 p.1 r) (list_any (parts_company p.0 p.1) pairs) none).0 in
-    let u : parts_company p.0 p.1 q ≡ false = subst (λ (z : List ℕ × List ℕ). parts_company p.0 p.1 z ≡ false) is t in
+    let t = (or_parts (has_other_second p.0 p.1 r) (list_any (has_other_second p.0 p.1) pairs) none).0 in
+    let u : has_other_second p.0 p.1 q ≡ false = subst (λ (z : List ℕ × List ℕ). has_other_second p.0 p.1 z ≡ false) is t in
     (bytes_decides p.1 q.1).0 (second (same_text p.0 q.0) (same_text p.1 q.1) ((bytes_decides p.0 q.0).1 e) u) where
       second : (a b : Bool) → a ≡ true → (a && not b) ≡ false → b ≡ true
       second true b h none = not-false b none
       second false b h none = absurd cc
-same_second p q (r ∷ pairs) none (suc k, lt, is) e = same_second p q pairs (or_parts (parts_company p.0 p.1 r) (list_any (parts_company p.0 p.1) pairs) none).1 (k, omega (arith, lt), is) e
+same_second p q (r ∷ pairs) none (suc k, lt, is) e = same_second p q pairs (or_parts (has_other_second p.0 p.1 r) (list_any (has_other_second p.0 p.1) pairs) none).1 (k, omega (arith, lt), is) e
 
 one_second : (pairs : List (List ℕ × List ℕ)) → have_one_each pairs ≡ true → (p q : List ℕ × List ℕ) → Contains pairs p → Contains pairs q → p.0 ≡ q.0 → p.1 ≡ q.1
 one_second [] one p q a b e = absurd (omega (arith, a.1))
 one_second (r ∷ pairs) one p q (zero, lt, is) (zero, lt', is') e = ap (λ (z : List ℕ × List ℕ). z.1) (sym is ∙ is')
 one_second (r ∷ pairs) one p q (zero, lt, is) (suc k, lt', is') e =
-    let none = not-true (list_any (parts_company r.0 r.1) pairs) (and_parts (not (list_any (parts_company r.0 r.1) pairs)) (have_one_each pairs) one).0 in
-    same_second p q pairs (subst (λ (z : List ℕ × List ℕ). list_any (parts_company z.0 z.1) pairs ≡ false) is none) (k, omega (arith, lt'), is') e
+    let none = not-true (list_any (has_other_second r.0 r.1) pairs) (and_parts (not (list_any (has_other_second r.0 r.1) pairs)) (have_one_each pairs) one).0 in
+    same_second p q pairs (subst (λ (z : List ℕ × List ℕ). list_any (has_other_second z.0 z.1) pairs ≡ false) is none) (k, omega (arith, lt'), is') e
 one_second (r ∷ pairs) one p q (suc k, lt, is) (zero, lt', is') e =
-    let none = not-true (list_any (parts_company r.0 r.1) pairs) (and_parts (not (list_any (parts_company r.0 r.1) pairs)) (have_one_each pairs) one).0 in
-    sym (same_second q p pairs (subst (λ (z : List ℕ × List ℕ). list_any (parts_company z.0 z.1) pairs ≡ false) is' none) (k, omega (arith, lt), is) (sym e))
+    let none = not-true (list_any (has_other_second r.0 r.1) pairs) (and_parts (not (list_any (has_other_second r.0 r.1) pairs)) (have_one_each pairs) one).0 in
+    sym (same_second q p pairs (subst (λ (z : List ℕ × List ℕ). list_any (has_other_second z.0 z.1) pairs ≡ false) is' none) (k, omega (arith, lt), is) (sym e))
 one_second (r ∷ pairs) one p q (suc k, lt, is) (suc k', lt', is') e =
-    one_second pairs (and_parts (not (list_any (parts_company r.0 r.1) pairs)) (have_one_each pairs) one).1 p q (k, omega (arith, lt), is) (k', omega (arith, lt'), is') e
+    one_second pairs (and_parts (not (list_any (has_other_second r.0 r.1) pairs)) (have_one_each pairs) one).1 p q (k, omega (arith, lt), is) (k', omega (arith, lt'), is') e
 
 pub are_one : (source : List ℕ) (f : FunctionText) → KeepsNames source f → (m n : Mention) → Contains (mentions_of source f) m → Contains (mentions_of source f) n → AreOne source m n
 are_one source f keeps m n a b =
