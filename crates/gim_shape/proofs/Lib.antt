@@ -1,2 +1,4 @@
 pub mod ListLemmas
 pub mod TableLemmas
+pub mod JudgingLemmas
+pub mod DistinctLemmas

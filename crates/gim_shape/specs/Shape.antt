@@ -16,20 +16,25 @@ abbrev pub end_fault : Span → Option EndText → Option GimpleFault
 end_fault head (Some end) = None
 end_fault head None = Some (fault_at NoReturn head)
 
--- a jump to none of the blocks of these numbers, at its `__BBn`
-abbrev pub jump_fault : List ℕ → List (List ℕ) → Span → Option GimpleFault
-jump_fault source numbers at = if is_among numbers (named_at source at) then None else Some (fault_at MissingBlock at)
+-- a jump to a block that isn't there, at its `__BBn`, told which numbers blocks have
+abbrev pub jump_fault : List ℕ → (List ℕ → Bool) → Span → Option GimpleFault
+jump_fault source is_there at = if is_there (named_at source at) then None else Some (fault_at MissingBlock at)
 
--- the places of a block of these blocks, told whether it may have phis
-abbrev pub block_faults : List ℕ → List BlockText → Bool → BlockText → List (Option GimpleFault)
-block_faults source blocks may block = end_fault block.head block.end
-    ∷ item_faults source (predecessors source blocks (number_of source block)) may block.items
-    ++ map (jump_fault source (numbers_of source blocks)) (jumps_of block)
+-- The places of a block, told which numbers blocks have, where the numbers stand of the blocks that jump to a number, and whether
+-- the block may have phis.
+abbrev pub block_faults : List ℕ → (List ℕ → Bool) → (List ℕ → List Span) → Bool → BlockText → List (Option GimpleFault)
+block_faults source is_there jump_here may block = end_fault block.head block.end
+    ∷ item_faults source (jump_here (number_of source block)) may block.items
+    ++ map (jump_fault source is_there) (jumps_of block)
+
+-- the places of a block of these blocks
+abbrev pub faults_among : List ℕ → List BlockText → Bool → BlockText → List (Option GimpleFault)
+faults_among source blocks may block = block_faults source (is_among (numbers_of source blocks)) (predecessors source blocks) may block
 
 -- The places of the blocks before a `}`. The first is the entry, which has no phi; without a block the fault is at the `}`.
 abbrev pub body_faults : List ℕ → Span → List BlockText → List (Option GimpleFault)
 body_faults source close [] = Some (fault_at MissingBlock close) ∷ []
-body_faults source close (entry ∷ rest) = block_faults source (entry ∷ rest) false entry ++ flat_map (block_faults source (entry ∷ rest) true) rest
+body_faults source close (entry ∷ rest) = faults_among source (entry ∷ rest) false entry ++ flat_map (faults_among source (entry ∷ rest) true) rest
 
 abbrev pub function_faults : List ℕ → FunctionText → List (Option GimpleFault)
 function_faults source function = body_faults source function.close function.blocks

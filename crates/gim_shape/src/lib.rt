@@ -15,4 +15,5 @@ mod text;
 
 
 pub use places::Place;
+pub use shape::check_shape;
 
