@@ -1,5 +1,6 @@
 -- Judging places one after the other.
 use Rattle.std.proofs.Common.{◌≡◌, ℕ, ◌+◌, ◌<◌, List, [], ◌∷◌, ◌++◌, length, get_or, drop, Option, Some, None, Result, Ok, Err, refl, sym, ◌∙◌}
+use Rattle.std.specs.Prelude.{IsErr, IsErrAnd}
 use Rattle.std.specs.List.{flat_map}
 use Rattle.std.proofs.lemmas.List.Concat.{flat_map-cons}
 use Rattle.gim_text.specs.declared.fault.GimpleFault.{GimpleFault}
@@ -36,3 +37,8 @@ behind_of f xs i x total lt is so_far free =
     let step : first_fault (flat_map f (drop i xs)) ≡ first_fault (flat_map f (drop (i + 1) xs)) =
     rw (drop_step xs i x lt is, flat_map-cons f x (drop (i + 1) xs), first_fault-append (f x) (flat_map f (drop (i + 1) xs)), free) refl in
     sym step ∙ so_far
+
+-- what a `?` hands out of a callee's fault
+pub passed_on : {X : Type 0} (total : Option GimpleFault) (fault : GimpleFault) (r : Result X GimpleFault) → IsErr r × IsErrAnd r (λ e. e ≡ fault) → IsFault fault.kind fault total → Judges total r
+passed_on total fault (Ok x) h is = let no = h.0 in absurd cc
+passed_on total fault (Err e) h is = rw (h.1) is

@@ -2,3 +2,4 @@ pub mod ListLemmas
 pub mod TableLemmas
 pub mod JudgingLemmas
 pub mod DistinctLemmas
+pub mod ShapeLemmas

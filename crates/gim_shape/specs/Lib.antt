@@ -4,3 +4,4 @@ pub mod Shape
 pub mod Tables
 pub mod Places
 pub mod Limits
+pub mod Seen

@@ -6,8 +6,8 @@ ghost use Rattle.gim_text.specs.Texts.{text_of};
 ghost use Rattle.gim_shape.specs.Blocks.{jumps_to, numbers_of, predecessors};
 ghost use Rattle.gim_shape.specs.Tables.{HasTexts, places_for, AreTables};
 
-use crate::text::{block_digits, text};
-use gim_text::{BlockText, EndText, Span};
+use crate::text::named_at;
+use gim_text::{text, BlockText, EndText, Span};
 use pm_ops::OutOfMemory;
 use std::alloc::Global;
 use std::collections::{HashMap, HashSet};
@@ -90,10 +90,10 @@ fn put_jumps<'a>(
     ensures { OnOk result ((q : List ℕ) → places_for jumps.new q ≡ places_for jumps.old q ++ (if jumps_to source.now q block.now then block.now.number ∷ [] else [])) }
 {
     match block.end {
-        Some(EndText::Goto(at)) => put_jump(alloc, jumps, block_digits(text(source, at)), block.number),
+        Some(EndText::Goto(at)) => put_jump(alloc, jumps, named_at(source, at), block.number),
         Some(EndText::If(_, _, _, to, otherwise)) => {
-            let first = block_digits(text(source, to));
-            let second = block_digits(text(source, otherwise));
+            let first = named_at(source, to);
+            let second = named_at(source, otherwise);
             put_jump(alloc, jumps, first, block.number)?;
             if first == second {
                 return Ok(());

@@ -14,6 +14,7 @@ mod shape;
 mod text;
 
 
+pub use limits::check_limits;
 pub use places::Place;
 pub use shape::check_shape;
 

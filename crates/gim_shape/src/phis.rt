@@ -9,8 +9,8 @@ ghost use Rattle.gim_shape.specs.Tables.{has_text, HasTexts};
 ghost use Rattle.gim_shape.specs.Phis.{is_each_once, named_by_args, args_fit, phi_fault, item_faults};
 
 use crate::blocks::texts_at;
-use crate::text::{block_digits, text};
-use gim_text::{ArgText, GimpleFault, GimpleKind, ItemText, Span};
+use crate::text::named_at;
+use gim_text::{text, ArgText, GimpleFault, GimpleKind, ItemText, Span};
 use pm_ops::OutOfMemory;
 use std::alloc::Global;
 use std::collections::HashSet;
@@ -25,7 +25,7 @@ fn distinct_numbers<'a>(
 {
     let mut set = HashSet::new(alloc);
     for arg in args {
-        if !set.insert(block_digits(text(source, arg.from)))? {
+        if !set.insert(named_at(source, arg.from))? {
             return Ok(None);
         }
     }
@@ -37,7 +37,7 @@ fn args_are_among<'a>(source: &'a [u8], set: &HashSet<&'a [u8]>, args: &[ArgText
     ensures { result ≡ list_all (has_text set.now) (named_by_args source.now args.now) }
 {
     for arg in args {
-        let number = block_digits(text(source, arg.from));
+        let number = named_at(source, arg.from);
         if !set.contains(&number) {
             return false;
         }

@@ -4,9 +4,9 @@ ghost use Rattle.std.specs.Prelude.{◌≡◌, ◌++◌, OnOk, IfOk};
 ghost use Rattle.std.specs.List.{flat_map};
 ghost use Rattle.gim_shape.specs.Places.{decl_places, operand_places, right_places, arg_places, item_places, end_places, block_places, places_of};
 
-use crate::text::{is_anonymous, text};
+use crate::text::is_anonymous;
 use gim_text::{
-    ArgText, BlockText, DeclText, EndText, FunctionText, ItemText, OperandText, RightForm, Span,
+    text, ArgText, BlockText, DeclText, EndText, FunctionText, ItemText, OperandText, RightForm, Span,
 };
 use pm_ops::OutOfMemory;
 use std::alloc::Global;

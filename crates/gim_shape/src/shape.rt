@@ -1,6 +1,6 @@
 //! The stage of shape: ends of blocks, jumps and phis.
 
-ghost use Rattle.std.specs.Prelude.{◌≡◌, ℕ, List, true, map};
+ghost use Rattle.std.specs.Prelude.{◌≡◌, ◌++◌, ℕ, List, false, true, map};
 ghost use Rattle.std.specs.List.{flat_map};
 ghost use Rattle.gim_text.specs.declared.tree.BlockText.{BlockText};
 ghost use Rattle.gim_text.specs.Faults.{Judges, first_fault};
@@ -10,8 +10,8 @@ ghost use Rattle.gim_shape.specs.Shape.{jump_fault, block_faults, function_fault
 
 use crate::blocks::Tables;
 use crate::phis::check_items;
-use crate::text::{block_digits, text};
-use gim_text::{BlockText, EndText, FunctionText, GimpleFault, GimpleKind, Span};
+use crate::text::named_at;
+use gim_text::{text, BlockText, EndText, FunctionText, GimpleFault, GimpleKind, Span};
 use std::alloc::Global;
 use std::collections::HashSet;
 
@@ -19,7 +19,7 @@ use std::collections::HashSet;
 fn check_jump<'a>(source: &'a [u8], numbers: &HashSet<&'a [u8]>, at: Span) -> Result<(), GimpleFault>
     ensures { Judges (jump_fault source.now (has_text numbers.now) at) result }
 {
-    let number = block_digits(text(source, at));
+    let number = named_at(source, at);
     if numbers.contains(&number) {
         Ok(())
     } else {
@@ -78,6 +78,20 @@ fn check_rest<'a>(
     Ok(())
 }
 
+/// Checks the entry and the blocks behind it.
+fn check_blocks<'a>(
+    alloc: Global,
+    source: &'a [u8],
+    tables: &Tables<'a>,
+    entry: &BlockText,
+    rest: &[BlockText],
+) -> Result<(), GimpleFault>
+    ensures { Judges (first_fault (block_faults source.now (has_text tables.now.numbers) (places_for tables.now.jumps) false entry.now ++ flat_map (block_faults source.now (has_text tables.now.numbers) (places_for tables.now.jumps) true) rest.now)) result }
+{
+    check_block(alloc, source, tables, false, entry)?;
+    check_rest(alloc, source, tables, rest)
+}
+
 /// Checks a function.
 fn check_function(
     alloc: Global,
@@ -90,10 +104,7 @@ fn check_function(
     let tables = Tables::of(alloc, source, blocks)?;
     match blocks {
         [] => Err(GimpleFault::at(GimpleKind::MissingBlock, function.close)),
-        [entry, rest @ ..] => {
-            check_block(alloc, source, &tables, false, entry)?;
-            check_rest(alloc, source, &tables, rest)
-        }
+        [entry, rest @ ..] => check_blocks(alloc, source, &tables, entry, rest),
     }
 }
 

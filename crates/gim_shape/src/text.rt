@@ -1,28 +1,17 @@
-//! The text at a place of the source.
+//! What the text of a place means.
 
-ghost use Rattle.std.specs.Prelude.{◌≡◌, option_map};
-ghost use Rattle.gim_ast.specs.Identifiers.{is_anonymous, is_digit};
-ghost use Rattle.gim_text.specs.Texts.{text_of, block_digits};
+ghost use Rattle.std.specs.Prelude.{◌≡◌};
+ghost use Rattle.gim_ast.specs.Identifiers.{is_anonymous};
+ghost use Rattle.gim_shape.specs.Blocks.{named_at};
 
-use crate::numbers::is_number_text;
-use gim_text::Span;
+use gim_text::{is_number_text, text, Span};
 
-/// The bytes of a place.
-pub(crate) fn text(source: &[u8], span: Span) -> &[u8]
-    ensures { result.now ≡ text_of source.now span }
+/// The number of the block that a `__BBn` names.
+pub(crate) fn named_at(source: &[u8], at: Span) -> &[u8]
+    ensures { result.now ≡ named_at source.now at }
 {
-    let from = span.from.min(source.len());
-    let (_, rest) = source.split_at(from);
-    let len = span.to.saturating_sub(span.from).min(rest.len());
-    let (front, _) = rest.split_at(len);
-    front
-}
-
-/// The digits of the number of `__BBn`.
-pub(crate) fn block_digits(text: &[u8]) -> &[u8]
-    ensures { result.now ≡ block_digits text.now }
-{
-    let (_, digits) = text.split_at(text.len().min(4));
+    let word = text(source, at);
+    let (_, digits) = word.split_at(word.len().min(4));
     digits
 }
 
