@@ -3,3 +3,4 @@ pub mod TableLemmas
 pub mod JudgingLemmas
 pub mod DistinctLemmas
 pub mod ShapeLemmas
+pub mod LimitLemmas

@@ -1,5 +1,5 @@
 -- The limits of a function that is read: 2,000 blocks, 20,000 names, and versions and block numbers up to 999,999,999.
-use Rattle.std.specs.Prelude.{ℕ, suc, Bool, true, false, not, ◌&&◌, ◌||◌, ◌==◌, is_none, Option, Some, None, option_map, List, [], ◌∷◌, count_by, if◌then◌else◌}
+use Rattle.std.specs.Prelude.{ℕ, suc, Bool, true, false, not, ◌&&◌, ◌||◌, ◌==◌, is_none, Option, Some, None, option_map, List, [], ◌∷◌, if◌then◌else◌}
 use Rattle.std.specs.List.{flat_map, filter_map}
 use Rattle.std.specs.Option.{option_map_or}
 use Rattle.gim_ast.specs.Identifiers.{is_number_text}
@@ -38,9 +38,11 @@ is_above digits = is_number_text digits && is_none (number_below 1000000000 digi
 
 -- ---- how many there are
 
-abbrev pub is_block : Place → Bool
-is_block (Block at) = true
-is_block place = false
+-- how many blocks' heads the places are
+abbrev pub blocks_among : List Place → ℕ
+blocks_among [] = 0
+blocks_among (Block at ∷ places) = suc (blocks_among places)
+blocks_among (place ∷ places) = blocks_among places
 
 abbrev pub version_at : List ℕ → Place → Option (List ℕ)
 version_at source (Name at) = version_of source at
@@ -62,7 +64,7 @@ is_name_too_many versions version = not (is_among versions version) && (differen
 -- the number at the place is too large, or the place is that of a block or a name too many; told the places before it
 abbrev pub is_too_large : List ℕ → List Place → Place → Bool
 is_too_large source before (Name at) = option_map_or (λ version. is_above version || is_name_too_many (versions_of source before) version) (version_of source at) false
-is_too_large source before (Block at) = is_above (text_of source at) || (count_by is_block before == 2000)
+is_too_large source before (Block at) = is_above (text_of source at) || (blocks_among before == 2000)
 is_too_large source before (Jump at) = is_above (named_at source at)
 
 -- ---- faults

@@ -10,6 +10,7 @@ mod limits;
 mod numbers;
 mod phis;
 mod places;
+mod seen;
 mod shape;
 mod text;
 

@@ -1,13 +1,14 @@
 //! The stage of limits: how many blocks and names a function has, and how large their numbers are.
 
-ghost use Rattle.std.specs.Prelude.{◌≡◌, ◌≤◌, ◌||◌, ◌==◌, ℕ, suc, List, [], ◌∷◌, IfOk, count_by};
+ghost use Rattle.std.specs.Prelude.{◌≡◌, ◌||◌, ◌==◌, ℕ, suc, List, [], ◌∷◌, IfOk};
 ghost use Rattle.gim_text.specs.Faults.{Judges, first_fault};
-ghost use Rattle.gim_shape.specs.Limits.{span_at, is_above, is_block, versions_of, is_name_too_many, is_too_large, place_faults, function_limit_faults, limits_fault};
+ghost use Rattle.gim_shape.specs.Limits.{span_at, is_above, blocks_among, versions_of, is_name_too_many, is_too_large, place_faults, function_limit_faults, limits_fault};
 ghost use Rattle.gim_shape.specs.declared.places.Place.{Place};
 ghost use Rattle.gim_shape.specs.Seen.{IsSeen, Takes};
 
 use crate::numbers::is_above;
 use crate::places::{places_of, Place};
+use crate::seen::Seen;
 use crate::text::named_at;
 use gim_text::{name_parts, text, FunctionText, GimpleFault, GimpleKind, Span};
 use pm_ops::OutOfMemory;
@@ -19,19 +20,6 @@ const BLOCKS: usize = 2_000;
 
 /// The most names of a function.
 const NAMES: usize = 20_000;
-
-/// What stands at the places of a function so far.
-#[derive(Drop)]
-pub struct Seen<'a> {
-    /// The versions of names.
-    versions: HashSet<&'a [u8]>,
-    /// How many names there are, which are told apart by their versions.
-    names: usize,
-    /// How many blocks there are.
-    blocks: usize,
-    ghost names_in_range: { names ≤ 20000 },
-    ghost blocks_in_range: { blocks ≤ 2000 },
-}
 
 impl<'a> Seen<'a> {
     /// Nothing yet.
@@ -75,7 +63,7 @@ impl<'a> Seen<'a> {
 
     /// Takes in the name or the block at a place; true where something is too large there.
     fn take(&mut self, source: &'a [u8], place: Place) -> Result<bool, OutOfMemory>
-        ensures { (before : List Place) → IsSeen (versions_of source.now before) (count_by is_block before) self.old → IfOk result (λ large. Takes (is_too_large source.now before place) (IsSeen (versions_of source.now (place ∷ before)) (count_by is_block (place ∷ before)) self.new) large) }
+        ensures { (before : List Place) → IsSeen (versions_of source.now before) (blocks_among before) self.old → IfOk result (λ large. Takes (is_too_large source.now before place) (IsSeen (versions_of source.now (place ∷ before)) (blocks_among (place ∷ before)) self.new) large) }
     {
         match place {
             Place::Name(at) => match name_parts(text(source, at)) {
