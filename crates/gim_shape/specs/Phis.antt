@@ -1,5 +1,5 @@
 -- Where a phi may stand, and which arguments it has.
-use Rattle.std.specs.Prelude.{ℕ, Bool, true, false, not, ◌&&◌, Option, Some, None, List, [], ◌∷◌, map, if◌then◌else◌}
+use Rattle.std.specs.Prelude.{ℕ, Bool, true, false, ◌&&◌, Option, Some, None, List, [], ◌∷◌, map, if◌then◌else◌}
 use Rattle.std.specs.List.{list_all}
 use Rattle.gim_ast.specs.WellFormed.{same_text, all_distinct}
 use Rattle.gim_text.specs.declared.token.Span.{Span}

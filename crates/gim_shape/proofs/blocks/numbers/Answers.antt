@@ -1,4 +1,4 @@
-use Rattle.std.proofs.Common.{◌≡◌, ◌++◌, ◌∷◌, [], ◌+◌, take, map}
+use Rattle.std.proofs.Common.{take}
 use Rattle.std.specs.HashSet.{contains_by}
 use Rattle.std.specs.Str.{bytes_eq}
 use Rattle.gim_shape.specs.Blocks.{number_of, numbers_of}

@@ -1,5 +1,4 @@
-use Rattle.std.proofs.Common.{◌≡◌, ◌∷◌, ◌<◌, ap, sym, ◌∙◌, drop, take, ◌-◌, length, get_or, arith}
-use Rattle.gim_shape.specs.Blocks.{numbers_of, predecessors}
+use Rattle.std.proofs.Common.{◌≡◌, ◌∷◌, drop, take, ◌-◌, length, arith}
 use Rattle.gim_shape.specs.Tables.{has_text, places_for}
 use Rattle.gim_shape.proofs.ListLemmas.{first_and_rest}
 use Rattle.gim_shape.proofs.ShapeLemmas.{body_by_tables}

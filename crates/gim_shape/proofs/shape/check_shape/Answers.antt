@@ -1,4 +1,4 @@
-use Rattle.gim_shape.specs.Shape.{function_faults, shape_fault}
+use Rattle.gim_shape.specs.Shape.{function_faults}
 use Rattle.gim_shape.proofs.JudgingLemmas.{front_of, behind_of, passed_on}
 use Rattle.gim_shape.proofs.shape.check_shape.Goals as goal
 
