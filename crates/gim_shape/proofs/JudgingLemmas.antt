@@ -1,7 +1,7 @@
 -- Judging places one after the other.
-use Rattle.std.proofs.Common.{◌≡◌, ℕ, ◌+◌, ◌<◌, List, [], ◌∷◌, ◌++◌, length, get_or, drop, Option, Some, None, Result, Ok, Err, refl, sym, ◌∙◌}
+use Rattle.std.proofs.Common.{◌≡◌, ℕ, ◌+◌, ◌<◌, List, [], ◌∷◌, ◌++◌, length, get_or, drop, Option, Some, None, Result, Ok, Err, refl, sym, ap, ◌∙◌}
 use Rattle.std.specs.Prelude.{IsErr, IsErrAnd}
-use Rattle.std.specs.List.{flat_map}
+use Rattle.std.specs.List.{AllByRecursion, flat_map}
 use Rattle.std.proofs.lemmas.List.Concat.{flat_map-cons}
 use Rattle.gim_text.specs.declared.fault.GimpleFault.{GimpleFault}
 use Rattle.gim_text.specs.declared.fault.GimpleKind.{GimpleKind}
@@ -42,3 +42,21 @@ behind_of f xs i x total lt is so_far free =
 pub passed_on : {X : Type 0} (total : Option GimpleFault) (fault : GimpleFault) (r : Result X GimpleFault) → IsErr r × IsErrAnd r (λ e. e ≡ fault) → IsFault fault.kind fault total → Judges total r
 passed_on total fault (Ok x) h is = let no = h.0 in absurd cc
 passed_on total fault (Err e) h is = rw (h.1) is
+
+-- ---- no fault
+
+pub none_first : (place : Option GimpleFault) (rest : List (Option GimpleFault)) → first_fault (place ∷ rest) ≡ None → (place ≡ None) × (first_fault rest ≡ None)
+none_first None rest free = (refl, free)
+none_first (Some fault) rest free = absurd cc
+
+pub none_parts : (xs ys : List (Option GimpleFault)) → first_fault (xs ++ ys) ≡ None → (first_fault xs ≡ None) × (first_fault ys ≡ None)
+none_parts [] ys free = (refl, free)
+none_parts (None ∷ xs) ys free = none_parts xs ys free
+none_parts (Some fault ∷ xs) ys free = absurd cc
+
+pub none_of_all : {X : Type 0} (f : X → List (Option GimpleFault)) (P : X → Type 0) → ((x : X) → first_fault (f x) ≡ None → P x) → (xs : List X)
+    → first_fault (flat_map f xs) ≡ None → AllByRecursion P xs
+none_of_all f P holds [] free = tt
+none_of_all f P holds (x ∷ xs) free =
+    let p = none_parts (f x) (flat_map f xs) (ap first_fault (sym (flat_map-cons f x xs)) ∙ free) in
+    (holds x p.0, none_of_all f P holds xs p.1)

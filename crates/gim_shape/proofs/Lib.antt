@@ -4,3 +4,5 @@ pub mod JudgingLemmas
 pub mod DistinctLemmas
 pub mod ShapeLemmas
 pub mod LimitLemmas
+pub mod ShapeKept
+pub mod LimitsKept

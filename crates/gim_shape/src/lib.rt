@@ -6,6 +6,7 @@
 #![tactic(auto)]
 
 mod blocks;
+pub mod laws;
 mod limits;
 mod numbers;
 mod phis;
