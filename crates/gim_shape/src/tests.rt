@@ -222,91 +222,119 @@ fn written(alloc: Global, lines: &[Line]) -> Result<Writer, OutOfMemory> {
     Ok(writer)
 }
 
+/// Whether the stage of shape finds a fault of this kind at the marked word of each, or none where none is marked.
+fn each_has_shape(alloc: Global, cases: &[&[Line]], kind: GimpleKind) -> Result<bool, OutOfMemory> {
+    for lines in cases {
+        if !written(alloc, lines)?.has_shape(kind) {
+            return Ok(false);
+        }
+    }
+    Ok(true)
+}
+
+/// Whether the stage of limits finds that the marked word of each is too large, or nothing where none is marked.
+fn each_keeps_limits(alloc: Global, cases: &[&[Line]]) -> Result<bool, OutOfMemory> {
+    for lines in cases {
+        if !written(alloc, lines)?.keeps_limits() {
+            return Ok(false);
+        }
+    }
+    Ok(true)
+}
+
+/// No function, and two functions of which the first has a loop.
+const GOOD: [&[Line]; 2] = [
+    &[],
+    &[
+        Local("_7"),
+        Block("__BB", "2"),
+        Stmt("x_2", "x_1(D)"),
+        Goto("__BB3"),
+        Block("__BB", "3"),
+        Phi("x_3", &["__BB3", "__BB2"]),
+        Phi("x_4", &["__BB2", "__BB3"]),
+        Stmt("_7", "5"),
+        If("__BB3", "__BB4"),
+        Block("__BB", "4"),
+        Phi("x_5", &["__BB3"]),
+        Return("x_5"),
+        Close("}"),
+        Block("__BB", "0"),
+        Return("5"),
+        Close("}"),
+    ],
+];
+
 #[test]
 fn functions_with_a_shape(rt: HostRuntime) -> Result<(), OutOfMemory> {
-    let none = written(rt.alloc(), &[])?;
-    assert!(rt; none.has_shape(GimpleKind::NoReturn) && none.keeps_limits());
-    let loops = written(
-        rt.alloc(),
-        &[
-            Local("_7"),
-            Block("__BB", "2"),
-            Stmt("x_2", "x_1(D)"),
-            Goto("__BB3"),
-            Block("__BB", "3"),
-            Phi("x_3", &["__BB3", "__BB2"]),
-            Phi("x_4", &["__BB2", "__BB3"]),
-            Stmt("_7", "5"),
-            If("__BB3", "__BB4"),
-            Block("__BB", "4"),
-            Phi("x_5", &["__BB3"]),
-            Return("x_5"),
-            Close("}"),
-            Block("__BB", "0"),
-            Return("5"),
-            Close("}"),
-        ],
-    )?;
-    assert!(rt; loops.has_shape(GimpleKind::NoReturn));
-    assert!(rt; loops.keeps_limits());
+    assert!(rt; each_has_shape(rt.alloc(), &GOOD, GimpleKind::NoReturn)?);
+    assert!(rt; each_keeps_limits(rt.alloc(), &GOOD)?);
     Ok(())
 }
 
-#[test]
-fn a_block_without_an_end(rt: HostRuntime) -> Result<(), OutOfMemory> {
-    let last = [
+const NO_END: [&[Line]; 3] = [
+    &[
         Block("__BB", "2"),
         Goto("__BB3"),
         Block("!__BB", "3"),
         Close("}"),
-    ];
-    let first = [
+    ],
+    &[
         Block("!__BB", "2"),
         Stmt("x_2", "5"),
         Block("__BB", "3"),
         Close("}"),
-    ];
-    // it stands before the phi of the same block
-    let before_phi = [Block("!__BB", "2"), Phi("x_3", &["__BB2"]), Close("}")];
-    assert!(rt; written(rt.alloc(), &last)?.has_shape(GimpleKind::NoReturn));
-    assert!(rt; written(rt.alloc(), &first)?.has_shape(GimpleKind::NoReturn));
-    assert!(rt; written(rt.alloc(), &before_phi)?.has_shape(GimpleKind::NoReturn));
+    ],
+    // the head stands before the phi of its block
+    &[Block("!__BB", "2"), Phi("x_3", &["__BB2"]), Close("}")],
+];
+
+#[test]
+fn a_block_without_an_end(rt: HostRuntime) -> Result<(), OutOfMemory> {
+    assert!(rt; each_has_shape(rt.alloc(), &NO_END, GimpleKind::NoReturn)?);
     Ok(())
 }
 
-#[test]
-fn a_missing_block(rt: HostRuntime) -> Result<(), OutOfMemory> {
-    let goto = [Block("__BB", "2"), Goto("!__BB3"), Close("}")];
-    let first_of_if = [Block("__BB", "2"), If("!__BB3", "__BB4"), Close("}")];
-    let second_of_if = [Block("__BB", "2"), If("__BB2", "!__BB22"), Close("}")];
-    let no_block = [Local("_7"), Close("!}")];
-    // each function has blocks of its own, and the first fault of the file is named
-    let of_another = [
+const MISSING: [&[Line]; 6] = [
+    &[Block("__BB", "2"), Goto("!__BB3"), Close("}")],
+    &[Block("__BB", "2"), If("!__BB3", "__BB4"), Close("}")],
+    &[Block("__BB", "2"), If("__BB2", "!__BB22"), Close("}")],
+    &[Local("_7"), Close("!}")],
+    // each function has blocks of its own
+    &[
         Block("__BB", "2"),
         Return("5"),
         Close("}"),
         Block("__BB", "3"),
         Goto("!__BB2"),
         Close("}"),
+    ],
+    // the first of several faults
+    &[
+        Block("__BB", "2"),
+        Goto("!__BB9"),
+        Block("__BB", "3"),
         Close("}"),
-    ];
-    assert!(rt; written(rt.alloc(), &goto)?.has_shape(GimpleKind::MissingBlock));
-    assert!(rt; written(rt.alloc(), &first_of_if)?.has_shape(GimpleKind::MissingBlock));
-    assert!(rt; written(rt.alloc(), &second_of_if)?.has_shape(GimpleKind::MissingBlock));
-    assert!(rt; written(rt.alloc(), &no_block)?.has_shape(GimpleKind::MissingBlock));
-    assert!(rt; written(rt.alloc(), &of_another)?.has_shape(GimpleKind::MissingBlock));
+        Close("}"),
+    ],
+];
+
+#[test]
+fn a_missing_block(rt: HostRuntime) -> Result<(), OutOfMemory> {
+    assert!(rt; each_has_shape(rt.alloc(), &MISSING, GimpleKind::MissingBlock)?);
     Ok(())
 }
 
-#[test]
-fn a_phi_where_none_may_stand(rt: HostRuntime) -> Result<(), OutOfMemory> {
-    let in_entry = [
+const MISPLACED: [&[Line]; 4] = [
+    // in the entry
+    &[
         Block("__BB", "2"),
         Phi("!x_3", &["__BB2"]),
         Goto("__BB2"),
         Close("}"),
-    ];
-    let after_stmt = [
+    ],
+    // after a statement
+    &[
         Block("__BB", "2"),
         Goto("__BB3"),
         Block("__BB", "3"),
@@ -315,132 +343,120 @@ fn a_phi_where_none_may_stand(rt: HostRuntime) -> Result<(), OutOfMemory> {
         Phi("!x_5", &["__BB2"]),
         Return("5"),
         Close("}"),
-    ];
-    assert!(rt; written(rt.alloc(), &in_entry)?.has_shape(GimpleKind::BadPhi));
-    assert!(rt; written(rt.alloc(), &after_stmt)?.has_shape(GimpleKind::BadPhi));
-    Ok(())
-}
-
-/// A phi of the third block, to which the two before it jump; the first does so by both of its jumps. No block leads to the
-/// second.
-fn with_args<'a>(phi: &'a str, from: &'a [&'a str]) -> [Line<'a>; 8] {
-    [
-        Block("__BB", "2"),
-        If("__BB4", "__BB4"),
-        Block("__BB", "3"),
-        Goto("__BB4"),
-        Block("__BB", "4"),
-        Phi(phi, from),
-        Return("5"),
-        Close("}"),
-    ]
-}
-
-#[test]
-fn arguments_of_a_phi(rt: HostRuntime) -> Result<(), OutOfMemory> {
-    let fit = with_args("x_3", &["__BB2", "__BB3"]);
-    let turned = with_args("x_3", &["__BB3", "__BB2"]);
-    let none = with_args("!x_3", &[]);
-    let one = with_args("!x_3", &["__BB3"]);
-    let twice = with_args("!x_3", &["__BB2", "__BB3", "__BB2"]);
-    let another = with_args("!x_3", &["__BB2", "__BB3", "__BB4"]);
-    let missing = with_args("!x_3", &["__BB2", "__BB33"]);
-    assert!(rt; written(rt.alloc(), &fit)?.has_shape(GimpleKind::BadPhi));
-    assert!(rt; written(rt.alloc(), &turned)?.has_shape(GimpleKind::BadPhi));
-    assert!(rt; written(rt.alloc(), &none)?.has_shape(GimpleKind::BadPhi));
-    assert!(rt; written(rt.alloc(), &one)?.has_shape(GimpleKind::BadPhi));
-    assert!(rt; written(rt.alloc(), &twice)?.has_shape(GimpleKind::BadPhi));
-    assert!(rt; written(rt.alloc(), &another)?.has_shape(GimpleKind::BadPhi));
-    assert!(rt; written(rt.alloc(), &missing)?.has_shape(GimpleKind::BadPhi));
-    // no block jumps here, so that no phi fits
-    let unreached = [
+    ],
+    // in a block to which none jumps
+    &[
         Block("__BB", "2"),
         Return("5"),
         Block("__BB", "3"),
         Phi("!x_3", &["__BB2"]),
         Return("5"),
         Close("}"),
-    ];
-    assert!(rt; written(rt.alloc(), &unreached)?.has_shape(GimpleKind::BadPhi));
-    Ok(())
-}
-
-#[test]
-fn the_first_of_two_faults(rt: HostRuntime) -> Result<(), OutOfMemory> {
-    let phi_then_jump = [
+    ],
+    // its name stands before a jump to a missing block
+    &[
         Block("__BB", "2"),
         Goto("__BB3"),
         Block("__BB", "3"),
         Phi("!x_3", &["__BB9"]),
         Goto("__BB9"),
         Close("}"),
-    ];
-    let jump_then_end = [
-        Block("__BB", "2"),
-        Goto("!__BB9"),
-        Block("__BB", "3"),
-        Close("}"),
-        Close("}"),
-    ];
-    assert!(rt; written(rt.alloc(), &phi_then_jump)?.has_shape(GimpleKind::BadPhi));
-    assert!(rt; written(rt.alloc(), &jump_then_end)?.has_shape(GimpleKind::MissingBlock));
+    ],
+];
+
+#[test]
+fn a_phi_where_none_may_stand(rt: HostRuntime) -> Result<(), OutOfMemory> {
+    assert!(rt; each_has_shape(rt.alloc(), &MISPLACED, GimpleKind::BadPhi)?);
     Ok(())
 }
 
+/// Phis of the third block, to which the two before it jump: the first by both of its jumps, and the second, to which none leads.
+const ARGUMENTS: [Line; 7] = [
+    Phi("x_3", &["__BB2", "__BB3"]),
+    Phi("x_3", &["__BB3", "__BB2"]),
+    Phi("!x_3", &[]),
+    Phi("!x_3", &["__BB3"]),
+    Phi("!x_3", &["__BB2", "__BB3", "__BB2"]),
+    Phi("!x_3", &["__BB2", "__BB3", "__BB4"]),
+    Phi("!x_3", &["__BB2", "__BB33"]),
+];
+
 #[test]
-fn large_numbers(rt: HostRuntime) -> Result<(), OutOfMemory> {
-    let greatest = [
+fn arguments_of_a_phi(rt: HostRuntime) -> Result<(), OutOfMemory> {
+    for phi in ARGUMENTS {
+        let lines = [
+            Block("__BB", "2"),
+            If("__BB4", "__BB4"),
+            Block("__BB", "3"),
+            Goto("__BB4"),
+            Block("__BB", "4"),
+            phi,
+            Return("5"),
+            Close("}"),
+        ];
+        assert!(rt; written(rt.alloc(), &lines)?.has_shape(GimpleKind::BadPhi));
+    }
+    Ok(())
+}
+
+const NUMBERS: [&[Line]; 9] = [
+    &[
         Local("_999999999"),
         Block("__BB", "999999999"),
         Phi("x_999999998", &["__BB999999999"]),
         Stmt("x_0", "1000000000"),
         If("__BB999999999", "__BB0"),
         Close("}"),
-    ];
-    let declared = [Local("x_1000000000"), Local("!_1000000000"), Close("}")];
-    let assigned = [
+    ],
+    &[Local("x_1000000000"), Local("!_1000000000"), Close("}")],
+    &[
         Block("__BB", "2"),
         Stmt("!x_1000000000", "_1000000000"),
         Close("}"),
-    ];
-    let used = [
+    ],
+    &[
         Block("__BB", "2"),
         Stmt("x_2", "!x_1000000000(D)"),
         Close("}"),
-    ];
-    let head = [
+    ],
+    &[
         Block("__BB", "!1000000000"),
         Goto("__BB1000000000"),
         Close("}"),
-    ];
-    let jump = [Block("__BB", "2"), Goto("!__BB1000000000"), Close("}")];
-    let second = [
+    ],
+    &[Block("__BB", "2"), Goto("!__BB1000000000"), Close("}")],
+    &[
         Block("__BB", "2"),
         If("__BB2", "!__BB10000000000"),
         Close("}"),
-    ];
-    let arg = [
+    ],
+    &[
         Block("__BB", "2"),
         Phi("x_2", &["__BB2", "!__BB1000000000"]),
         Close("}"),
-    ];
-    let returned = [
+    ],
+    &[
         Block("__BB", "2"),
         Return("5"),
         Close("}"),
         Block("__BB", "2"),
         Return("!x_9999999999999999999999999999"),
         Close("}"),
-    ];
-    assert!(rt; written(rt.alloc(), &greatest)?.keeps_limits());
-    assert!(rt; written(rt.alloc(), &declared)?.keeps_limits());
-    assert!(rt; written(rt.alloc(), &assigned)?.keeps_limits());
-    assert!(rt; written(rt.alloc(), &used)?.keeps_limits());
-    assert!(rt; written(rt.alloc(), &head)?.keeps_limits());
-    assert!(rt; written(rt.alloc(), &jump)?.keeps_limits());
-    assert!(rt; written(rt.alloc(), &second)?.keeps_limits());
-    assert!(rt; written(rt.alloc(), &arg)?.keeps_limits());
-    assert!(rt; written(rt.alloc(), &returned)?.keeps_limits());
+    ],
+];
+
+#[test]
+fn large_numbers(rt: HostRuntime) -> Result<(), OutOfMemory> {
+    assert!(rt; each_keeps_limits(rt.alloc(), &NUMBERS)?);
+    Ok(())
+}
+
+/// Writes this many blocks, numbered from 0.
+fn put_blocks(writer: &mut Writer, count: u32) -> Result<(), OutOfMemory> {
+    for number in 0..count {
+        let number = format!(in writer.alloc; "{number}")?;
+        writer.line(&Block("__BB", &number))?;
+    }
     Ok(())
 }
 
@@ -448,18 +464,12 @@ fn large_numbers(rt: HostRuntime) -> Result<(), OutOfMemory> {
 fn blocks_up_to_the_limit(rt: HostRuntime) -> Result<(), OutOfMemory> {
     let mut writer = Writer::new(rt.alloc());
     // the limit is for each function by itself
-    writer.line(&Block("__BB", "2"))?;
+    put_blocks(&mut writer, 1)?;
     writer.line(&Close("}"))?;
-    for number in 0..2000u32 {
-        let number = format!(in rt.alloc(); "{number}")?;
-        writer.line(&Block("__BB", &number))?;
-    }
+    put_blocks(&mut writer, 2000)?;
     writer.line(&Close("}"))?;
     assert!(rt; writer.keeps_limits());
-    for number in 0..2000u32 {
-        let number = format!(in rt.alloc(); "{number}")?;
-        writer.line(&Block("__BB", &number))?;
-    }
+    put_blocks(&mut writer, 2000)?;
     writer.line(&Block("__BB", "!2000"))?;
     writer.line(&Block("__BB", "2001"))?;
     writer.line(&Close("}"))?;
@@ -467,22 +477,26 @@ fn blocks_up_to_the_limit(rt: HostRuntime) -> Result<(), OutOfMemory> {
     Ok(())
 }
 
+/// Writes a function with 20,000 names and one use more.
+fn put_names(writer: &mut Writer, last: &str) -> Result<(), OutOfMemory> {
+    // one name that is declared, and 19,999 that are assigned; a local with a base is none
+    writer.line(&Local("_70000"))?;
+    writer.line(&Local("x_80000"))?;
+    writer.line(&Block("__BB", "2"))?;
+    for version in 0..19999u32 {
+        let name = format!(in writer.alloc; "x_{version}")?;
+        writer.line(&Stmt(&name, &name))?;
+    }
+    writer.line(&Stmt("_70000", last))?;
+    writer.line(&Close("}"))
+}
+
 #[test]
 fn names_up_to_the_limit(rt: HostRuntime) -> Result<(), OutOfMemory> {
     let mut writer = Writer::new(rt.alloc());
-    for last in ["x_0", "!x_20000"] {
-        assert!(rt; writer.keeps_limits());
-        // one name that is declared, and 19,999 that are assigned; a local with a base is none
-        writer.line(&Local("_70000"))?;
-        writer.line(&Local("x_80000"))?;
-        writer.line(&Block("__BB", "2"))?;
-        for version in 0..19999u32 {
-            let name = format!(in rt.alloc(); "x_{version}")?;
-            writer.line(&Stmt(&name, &name))?;
-        }
-        writer.line(&Stmt("_70000", last))?;
-        writer.line(&Close("}"))?;
-    }
+    put_names(&mut writer, "x_0")?;
+    assert!(rt; writer.keeps_limits());
+    put_names(&mut writer, "!x_20000")?;
     assert!(rt; writer.keeps_limits());
     Ok(())
 }
