@@ -1,0 +1,5 @@
+pub mod Declarations
+pub mod Trees
+pub mod Names
+pub mod Types
+pub mod Standing
