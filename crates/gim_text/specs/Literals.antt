@@ -1,5 +1,5 @@
 -- The type and the word of a constant, by how it is written.
-use Rattle.std.specs.Prelude.{ℕ, Bool, Option, Some, None, List, if◌then◌else◌, ℤ, pos, neg_ℤ}
+use Rattle.std.specs.Prelude.{◌≡◌, ◌≤◌, ◌^◌, ℕ, MatchOption, Bool, Option, Some, None, List, if◌then◌else◌, ℤ, pos, neg_ℤ}
 use Rattle.pm_wide.specs.Types.{Ty, Word, in_range, word, int_type, unsigned_int_type, long_type, unsigned_long_type}
 use Rattle.gim_ast.specs.Numbers.{number_after}
 use Rattle.gim_text.specs.declared.tree.LiteralText.{LiteralText}
@@ -7,9 +7,9 @@ use Rattle.gim_text.specs.declared.tree.LiteralType.{LiteralType}
 use Rattle.gim_text.specs.declared.tree.LiteralType.TheVariants.{Plain, Unsigned, Long, UnsignedLong, Written}
 use Rattle.gim_text.specs.Texts.{text_of, leading_digits}
 
--- the number of the digits, of any length, with its sign
-abbrev pub signed_number : Bool → List ℕ → ℤ
-signed_number negative digits = if negative then neg_ℤ (pos (number_after 0 digits)) else pos (number_after 0 digits)
+-- a number with its sign
+abbrev pub signed : Bool → ℕ → ℤ
+signed negative n = if negative then neg_ℤ (pos n) else pos n
 
 -- the type of a constant of this number
 abbrev pub literal_type : LiteralType → ℤ → Ty
@@ -28,4 +28,8 @@ word_by ty z = word_in (literal_type ty z) z
 
 -- the word of a constant; none where its type doesn't hold the number
 unfoldable pub literal_word : List ℕ → LiteralText → Option Word
-literal_word source literal = word_by literal.ty (signed_number literal.negative (leading_digits (text_of source literal.number)))
+literal_word source literal = word_by literal.ty (signed literal.negative (number_after 0 (leading_digits (text_of source literal.number))))
+
+-- the size of a number, where it is below 2 to the 128th
+abbrev pub IsSize : Option ℕ → ℕ → Type 0
+IsSize size n = MatchOption size (2 ^ 128 ≤ n) (λ m. m ≡ n)

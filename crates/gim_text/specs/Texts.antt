@@ -1,6 +1,5 @@
 -- The bytes of a place in the source, and what names and numbers are by their bytes.
 use Rattle.std.specs.Prelude.{ℕ, ◌-◌, ◌==◌, ◌&&◌, Option, Some, None, List, [], ◌∷◌, take, drop, if◌then◌else◌}
-use Rattle.std.specs.Cmp.Lexicographic.{pointwise}
 use Rattle.gim_ast.specs.Identifiers.{is_digit, is_number_text}
 use Rattle.gim_text.specs.declared.token.Span.{Span}
 
