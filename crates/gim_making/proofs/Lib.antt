@@ -1,3 +1,4 @@
 pub mod FaultLemmas
 pub mod DeclaredLemmas
 pub mod RowLemmas
+pub mod ListLemmas

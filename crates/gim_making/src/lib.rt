@@ -5,7 +5,6 @@
 //! declarations of its function (`scope`).
 #![tactic(auto)]
 
-mod given;
 mod making;
 mod numbers;
 mod places;
@@ -21,9 +20,9 @@ ghost use Rattle.gim_making.specs.Types.{types_fault};
 
 use gim_ast::Function;
 use gim_text::{FunctionText, GimpleFault};
+pub use places::NamePlace;
 use pm_items::Items;
 use pm_ops::OutOfMemory;
-pub use places::NamePlace;
 use std::alloc::Global;
 
 /// Judges the types of a file: the first place at which a right side, an argument of a phi, a condition or a returned operand is not

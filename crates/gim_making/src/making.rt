@@ -10,8 +10,10 @@ use crate::places::names_in;
 use crate::rows::names;
 use crate::scope::Scope;
 use gim_ast::{Block, Decl, End, Function, Operands, Phi, Rhs, Stmt};
-use crate::given::{literal, text};
-use gim_text::{ArgText, BlockText, DeclText, EndText, FunctionText, ItemText, OperandText, RightForm, Span};
+use gim_text::{
+    ArgText, BlockText, DeclText, EndText, FunctionText, ItemText, OperandText, RightForm, Span,
+    literal, text,
+};
 use pm_items::Items;
 use pm_ops::{Code, OutOfMemory, Text};
 use pm_wide::{Operand, Wide};

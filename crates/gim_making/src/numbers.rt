@@ -4,8 +4,7 @@ ghost use Rattle.std.specs.Prelude.{◌≡◌, ◌≤◌, ◌^◌};
 ghost use Rattle.gim_ast.specs.Numbers.{capped, number_below};
 ghost use Rattle.gim_making.specs.Declarations.{number_of};
 
-use crate::given::{is_number_text};
-
+use gim_text::is_number_text;
 
 /// One more than the greatest version and the greatest block number.
 const LIMIT: u64 = 1_000_000_000;

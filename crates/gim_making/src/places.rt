@@ -5,8 +5,10 @@ ghost use Rattle.std.specs.List.{flat_map};
 ghost use Rattle.gim_ast.specs.Identifiers.{is_anonymous};
 ghost use Rattle.gim_making.specs.Names.{names_in, names_of_arg, names_of_block, names_of_decl, names_of_end, names_of_form, names_of_item, names_of_operand, plain};
 
-use crate::given::{is_number_text, text};
-use gim_text::{ArgText, BlockText, DeclText, EndText, FunctionText, ItemText, OperandText, RightForm, Span};
+use gim_text::{
+    ArgText, BlockText, DeclText, EndText, FunctionText, ItemText, OperandText, RightForm, Span,
+    is_number_text, text,
+};
 use pm_ops::OutOfMemory;
 use std::alloc::Global;
 
@@ -122,11 +124,7 @@ fn push_block(places: &mut Vec<NamePlace>, block: &BlockText) -> Result<(), OutO
 }
 
 /// The declarations of anonymous names.
-fn declared(
-    alloc: Global,
-    source: &[u8],
-    decls: &[DeclText],
-) -> Result<Vec<NamePlace>, OutOfMemory>
+fn declared(alloc: Global, source: &[u8], decls: &[DeclText]) -> Result<Vec<NamePlace>, OutOfMemory>
     ensures { IfOk result (λ places. places.items ≡ flat_map (names_of_decl source.now) decls.now) }
 {
     let mut places = Vec::new(alloc);

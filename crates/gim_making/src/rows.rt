@@ -7,12 +7,11 @@ ghost use Rattle.std.specs.Option.{option_or};
 ghost use Rattle.std.specs.Ordering.{nat_cmp};
 ghost use Rattle.gim_making.specs.Names.{AreNames, first_of, rows_of_place};
 
-use crate::places::NamePlace;
 use crate::numbers::number;
+use crate::places::NamePlace;
 use crate::scope::Scope;
 use gim_ast::NameRow;
-use crate::given::{name_parts, text};
-
+use gim_text::{name_parts, text};
 use pm_items::Items;
 use pm_ops::{OutOfMemory, Text};
 use std::alloc::Global;

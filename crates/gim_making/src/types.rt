@@ -7,8 +7,10 @@ ghost use Rattle.gim_making.specs.Declarations.{declarations_of};
 ghost use Rattle.gim_making.specs.Types.{form_fits, mismatch, place_of_arg, places_of_block, places_of_end, places_of_function, places_of_item, start_of, type_of_operand, types_fault};
 
 use crate::scope::Scope;
-use crate::given::{literal};
-use gim_text::{ArgText, BlockText, EndText, FunctionText, GimpleFault, GimpleKind, ItemText, OperandText, RightForm, Span};
+use gim_text::{
+    ArgText, BlockText, EndText, FunctionText, GimpleFault, GimpleKind, ItemText, OperandText,
+    RightForm, Span, literal,
+};
 use pm_ops::Code;
 use pm_wide::{IntType, Wide, well_typed};
 use std::alloc::Global;
@@ -18,12 +20,13 @@ fn type_of_operand(scope: &Scope, operand: &OperandText) -> IntType
 {
     match operand {
         OperandText::Name(at) | OperandText::Default(at) => scope.type_of_name(*at),
-        OperandText::Literal(text) => literal(scope.source(), text).unwrap_or(Wide::default()).ty(),
+        OperandText::Literal(text) => literal(scope.source(), text)
+            .unwrap_or(Wide::default())
+            .ty(),
     }
 }
 
 /// Whether a right side is well typed for a name of this type.
-#[tactic(auto, unfolding(pm_wide::specs::Typing::well_typed_operation))]
 fn form_fits(scope: &Scope, ty: IntType, form: &RightForm) -> bool
     ensures { result ≡ form_fits scope.now ty form.now }
 {
