@@ -55,3 +55,6 @@ pub fn make(
     }
     Ok(made)
 }
+
+#[cfg(test)]
+mod tests;
