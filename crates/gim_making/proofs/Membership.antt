@@ -49,11 +49,12 @@ has_flat f [] x y h there = absurd h
 has_flat f (z ∷ xs) x y (inl e) there = has_left (f z) (flat_map f xs) y (subst (λ w. Has (f w) y) (sym e) there)
 has_flat f (z ∷ xs) x y (inr h) there = has_right (f z) (flat_map f xs) y (has_flat f xs x y h there)
 
+flat_later : {X Y : Type 0} (f : X → List Y) (x : X) (xs : List X) (y : Y) → ((z : X) × Has xs z × Has (f z) y) → (z : X) × Has (x ∷ xs) z × Has (f z) y
+flat_later f x xs y r = (r.0, inr r.1, r.2)
+
 pub from_flat : {X Y : Type 0} (f : X → List Y) (xs : List X) (y : Y) → Has (flat_map f xs) y → (x : X) × Has xs x × Has (f x) y
 from_flat f [] y h = absurd h
-from_flat f (x ∷ xs) y h = elim (has_either (f x) (flat_map f xs) y h) [ inl l ↦ (x, inl refl, l) | inr r ↦ later (from_flat f xs y r) ] where
-  later : ((z : X) × Has xs z × Has (f z) y) → (z : X) × Has (x ∷ xs) z × Has (f z) y
-  later r = (r.0, inr r.1, r.2)
+from_flat f (x ∷ xs) y h = elim (has_either (f x) (flat_map f xs) y h) [ inl l ↦ (x, inl refl, l) | inr r ↦ flat_later f x xs y (from_flat f xs y r) ]
 
 -- ---- tests
 
@@ -112,3 +113,19 @@ flat_of_flat P v h (x ∷ xs) each =
 pub flat_of_nothing : {X A : Type 0} (f : X → List A) (xs : List X) → ((x : X) → f x ≡ []) → flat_map f xs ≡ []
 flat_of_nothing f [] each = refl
 flat_of_nothing f (x ∷ xs) each = ap (λ l. l ++ flat_map f xs) (each x) ∙ flat_of_nothing f xs each
+
+pub flat_of_map_at : {X M A : Type 0} (P : M → List A) (v : X → M) (h : X → List A) (xs : List X) → ((x : X) → Has xs x → P (v x) ≡ h x) → flat_map P (map v xs) ≡ flat_map h xs
+flat_of_map_at P v h [] each = refl
+flat_of_map_at P v h (x ∷ xs) each = ap (λ l. l ++ flat_map P (map v xs)) (each x (inl refl)) ∙ ap (λ l. h x ++ l) (flat_of_map_at P v h xs (λ y there. each y (inr there)))
+
+pub flat_same : {X A : Type 0} (f g : X → List A) (xs : List X) → ((x : X) → f x ≡ g x) → flat_map f xs ≡ flat_map g xs
+flat_same f g [] each = refl
+flat_same f g (x ∷ xs) each = ap (λ l. l ++ flat_map f xs) (each x) ∙ ap (λ l. g x ++ l) (flat_same f g xs each)
+
+pub map-append : {X Y : Type 0} (f : X → Y) (xs ys : List X) → map f (xs ++ ys) ≡ map f xs ++ map f ys
+map-append f [] ys = refl
+map-append f (x ∷ xs) ys = ap (λ l. f x ∷ l) (map-append f xs ys)
+
+pub map_of_flat : {X A B : Type 0} (f : A → B) (g : X → List A) (xs : List X) → map f (flat_map g xs) ≡ flat_map (λ x. map f (g x)) xs
+map_of_flat f g [] = refl
+map_of_flat f g (x ∷ xs) = map-append f (g x) (flat_map g xs) ∙ ap (λ l. map f (g x) ++ l) (map_of_flat f g xs)

@@ -3,3 +3,4 @@ pub mod Trees
 pub mod Names
 pub mod Types
 pub mod Standing
+pub mod Written

@@ -5,6 +5,7 @@
 //! declarations of its function (`scope`).
 #![tactic(auto)]
 
+pub mod laws;
 mod making;
 mod numbers;
 mod places;
