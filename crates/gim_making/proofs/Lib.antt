@@ -7,3 +7,7 @@ pub mod MentionLemmas
 pub mod MadeLemmas
 pub mod PartLemmas
 pub mod PlaceLemmas
+pub mod NameRowLemmas
+pub mod DeclarationsHold
+pub mod UseLemmas
+pub mod NamesHold

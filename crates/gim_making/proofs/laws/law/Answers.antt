@@ -3,6 +3,9 @@ use Rattle.gim_making.proofs.MentionLemmas.{names_are_mentioned}
 use Rattle.gim_making.proofs.MadeLemmas.{made_operands}
 use Rattle.gim_making.proofs.PartLemmas.{typed}
 use Rattle.gim_making.proofs.PlaceLemmas.{rows_agree}
+use Rattle.gim_making.proofs.NameRowLemmas.{name_is_row}
+use Rattle.gim_making.proofs.DeclarationsHold.{types}
+use Rattle.gim_making.proofs.NamesHold.{names}
 use Rattle.gim_making.proofs.laws.law.Goals as goal
 
 pub returns : goal.returns
