@@ -81,6 +81,13 @@ fn word_in(negative: bool, size: Option<u128>, ty: IntType) -> Option<Wide>
     Some(Wide::reduce(bits, ty))
 }
 
+/// The word at a type of the number of these digits with its sign, where it is a value of that type.
+pub fn constant(negative: bool, digits: &[u8], ty: IntType) -> Option<Wide>
+    ensures { result ≡ word_in ty (signed negative (number_after 0 digits.now)) }
+{
+    word_in(negative, number(digits), ty)
+}
+
 /// The word of a constant. None where its type does not hold the number.
 #[tactic(auto, unfolding(crate::specs::Literals::literal_word))]
 pub fn literal(source: &[u8], literal: &LiteralText) -> Option<Wide>

@@ -1,8 +1,9 @@
 //! The bytes of a place, names and numbers in them.
 
-ghost use Rattle.std.specs.Prelude.{◌≡◌, ◌≤◌, ◌<◌, ◌-◌, length, drop, option_map, slice_index, true, false};
+ghost use Rattle.std.specs.Prelude.{◌≡◌, ◌≤◌, ◌<◌, ◌-◌, ◌^◌, length, drop, option_map, slice_index, true, false};
 ghost use Rattle.std.specs.List.{list_all};
 ghost use Rattle.gim_ast.specs.Identifiers.{is_digit, is_number_text};
+ghost use Rattle.gim_ast.specs.Numbers.{capped, number_below};
 ghost use Rattle.gim_text.specs.Texts.{text_of, leading_digits, name_parts};
 
 use crate::token::Span;
@@ -39,6 +40,37 @@ pub fn is_number_text(bytes: &[u8]) -> bool
         [] => false,
         [byte] => is_digit(*byte),
         [first, rest @ ..] => is_digit(*first) && *first != b'0' && are_digits(rest),
+    }
+}
+
+/// The number that digits write, or the limit where it is as great.
+fn capped(limit: u64, digits: &[u8]) -> u64
+    requires { limit ≤ 2 ^ 32 }
+    ensures value { result ≡ capped limit 0 digits.now }
+    ensures bound { result ≤ limit }
+{
+    let mut value = 0;
+    for digit in digits {
+        let next = 10 * value + u64::from(digit.saturating_sub(b'0'));
+        value = next.min(limit);
+    }
+    value
+}
+
+/// The number below the limit that the bytes write, without a leading zero.
+#[tactic(auto, unfolding(gim_ast::specs::Numbers::number_below))]
+pub fn number_below(limit: u64, bytes: &[u8]) -> Option<u32>
+    requires { limit ≤ 2 ^ 32 }
+    ensures { result ≡ number_below limit bytes.now }
+{
+    if !is_number_text(bytes) {
+        return None;
+    }
+    let value = capped(limit, bytes);
+    if value < limit {
+        Some(value as u32)
+    } else {
+        None
     }
 }
 
