@@ -11,3 +11,4 @@ pub mod NameRowLemmas
 pub mod DeclarationsHold
 pub mod UseLemmas
 pub mod NamesHold
+pub mod OperandsHold

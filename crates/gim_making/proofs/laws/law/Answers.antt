@@ -6,6 +6,7 @@ use Rattle.gim_making.proofs.PlaceLemmas.{rows_agree}
 use Rattle.gim_making.proofs.NameRowLemmas.{name_is_row}
 use Rattle.gim_making.proofs.DeclarationsHold.{types}
 use Rattle.gim_making.proofs.NamesHold.{names}
+use Rattle.gim_making.proofs.OperandsHold.{operands}
 use Rattle.gim_making.proofs.laws.law.Goals as goal
 
 pub returns : goal.returns
