@@ -12,3 +12,7 @@ pub mod DeclarationsHold
 pub mod UseLemmas
 pub mod NamesHold
 pub mod OperandsHold
+pub mod SmallLemmas
+pub mod BlocksHold
+pub mod BoundsHold
+pub mod Sound
