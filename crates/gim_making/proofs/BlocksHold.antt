@@ -1,7 +1,8 @@
 -- The blocks of a function that is made hold: their numbers, jumps and phis.
-use Rattle.std.proofs.Common.{◌≡◌, ◌⊎◌, ℕ, Bool, true, false, cond, Option, Some, None, List, [], ◌∷◌, ◌++◌, map, refl, sym, ap, subst, ◌∙◌, inl, inr}
+use Rattle.std.proofs.Common.{◌≡◌, ℕ, Bool, true, false, cond, Option, Some, None, List, [], ◌∷◌, ◌++◌, map, refl, sym, ap, subst, ◌∙◌, inl, inr}
 use Rattle.std.specs.Prelude.{◌==◌, ◌&&◌, ◌||◌, not, filter, IsSome}
-use Rattle.std.specs.List.{flat_map, list_any, list_all, AllByRecursion}
+use Rattle.std.specs.List.{flat_map, list_any, list_all}
+use Rattle.std.specs.Option.{option_map_or}
 use Rattle.std.proofs.lemmas.Bool.{and_parts, and_from, eqb-true, eq-eqb, false≢true}
 use Rattle.pm_wide.specs.declared.operand.Operand.{Operand}
 use Rattle.gim_ast.specs.declared.function.Block.{Block}
@@ -23,7 +24,7 @@ use Rattle.gim_names.specs.Kept.{KeepsNames, number_text}
 use Rattle.gim_shape.specs.Blocks as shape
 use Rattle.gim_shape.specs.Blocks.{named_at, jumps_of_end, jumps_of, jumps_to, predecessors}
 use Rattle.gim_shape.specs.Kept.{ItemFits, HasNoPhi, Leads, BlockHolds, HasEntry, HasShape, KeepsLimits}
-use Rattle.gim_shape.specs.Phis.{named_by_args, has_args, is_each_once, args_fit}
+use Rattle.gim_shape.specs.Phis.{named_by_args, has_args, is_each_once}
 use Rattle.gim_making.specs.Declarations.{Declarations, declarations_of, number_of, version_of_name}
 use Rattle.gim_making.specs.Standing.{made}
 use Rattle.gim_making.specs.Trees.{arg_of, phi_of, end_of, block_of}
@@ -117,7 +118,7 @@ known_block : (source : List ℕ) (tree : FunctionText) → IsWritten source tre
 known_block source tree written limits shaped block there =
     let holds = each_has (BlockHolds source tree.blocks) tree.blocks shaped.blocks block there in
     let e = some_end block.end holds.end in
-    let jumps_same : jumps_of block ≡ jumps_of_end e.0 = ap (λ o. Rattle.std.specs.Option.option_map_or jumps_of_end o []) e.1 in
+    let jumps_same : jumps_of block ≡ jumps_of_end e.0 = ap (λ o. option_map_or jumps_of_end o []) e.1 in
     record {
       there = there;
       end = e.0;
@@ -153,7 +154,7 @@ jumps_test source nt (at ∷ spans) one small =
 block_jumps : (source : List ℕ) (tree : FunctionText) (nt : List ℕ) (block : BlockText) (k : Known source tree block) → IsSmall nt → list_any (λ to. to == number_of nt) (targets_of (end_of (declarations_of source tree) block.end)) ≡ jumps_to source nt block
 block_jumps source tree nt block k one =
     ap (list_any (λ to. to == number_of nt)) (block_targets source tree block k) ∙ jumps_test source nt (jumps_of_end k.end) one k.jumps
-    ∙ ap (list_any (λ at. same_text nt (named_at source at))) (sym (ap (λ o. Rattle.std.specs.Option.option_map_or jumps_of_end o []) k.ends))
+    ∙ ap (list_any (λ at. same_text nt (named_at source at))) (sym (ap (λ o. option_map_or jumps_of_end o []) k.ends))
 
 preds_by : (source nt : List ℕ) (b c : Bool) (block : BlockText) (front : List ℕ) (later : List BlockText) → b ≡ c → front ≡ map number_of (map (text_of source) (map (λ (x : BlockText). x.number) later))
     → cond b (number_of (text_of source block.number) ∷ []) [] ++ front ≡ map number_of (map (text_of source) (map (λ (x : BlockText). x.number) (cond c (block ∷ later) later)))

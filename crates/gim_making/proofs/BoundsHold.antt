@@ -1,7 +1,7 @@
 -- A function that is made has fewer than 2 ^ 31 blocks, names and operands.
-use Rattle.std.proofs.Common.{◌≡◌, ◌⊎◌, ℕ, suc, ◌+◌, ◌^◌, ◌<◌, ◌≤◌, Bool, true, false, cond, Option, Some, None, option_map, List, [], ◌∷◌, ◌++◌, map, length, lit<, refl, sym, ap, subst, ◌∙◌, arith, inl, inr}
-use Rattle.std.specs.Prelude.{◌==◌, ◌&&◌, ◌||◌, nat_lt}
-use Rattle.std.specs.List.{list_any, list_all, filter_map, cons_option, IsDistinct, AllByRecursion}
+use Rattle.std.proofs.Common.{◌≡◌, ◌⊎◌, ℕ, suc, ◌^◌, ◌<◌, ◌≤◌, Bool, true, false, cond, Option, Some, None, option_map, List, [], ◌∷◌, map, length, refl, sym, ap, subst, ◌∙◌, arith, inl, inr}
+use Rattle.std.specs.Prelude.{◌&&◌, ◌||◌, nat_lt}
+use Rattle.std.specs.List.{list_all, filter_map, cons_option, IsDistinct, AllByRecursion}
 use Rattle.std.specs.Set.{unique_keys, is_member}
 use Rattle.std.specs.Fmt.{decimal}
 use Rattle.std.specs.Cmp.Lexicographic.{nat_list_eq_equiv}
@@ -11,10 +11,8 @@ use Rattle.gim_ast.specs.declared.function.NameRow.{NameRow}
 use Rattle.gim_ast.specs.Functions.{operands_of}
 use Rattle.gim_ast.specs.WellFormed.{same_text, rises, bounds_hold}
 use Rattle.gim_text.specs.declared.tree.FunctionText.{FunctionText}
-use Rattle.gim_text.specs.Texts.{text_of, name_parts}
 use Rattle.gim_names.specs.Kept.{KeepsNames}
-use Rattle.gim_shape.specs.declared.places.Place.{Place}
-use Rattle.gim_shape.specs.declared.places.Place.TheVariants.{Name, Block, Jump}
+use Rattle.gim_shape.specs.declared.places.Place.TheVariants.{Name}
 use Rattle.gim_shape.specs.Blocks.{is_among}
 use Rattle.gim_shape.specs.Kept.{KeepsLimits}
 use Rattle.gim_shape.specs.Limits.{version_at, versions_of, different}
@@ -27,7 +25,7 @@ use Rattle.gim_making.specs.Written.{texts_in, IsWritten}
 use Rattle.gim_making.proofs.Membership.{Has, from_map, any_has, any_from_has}
 use Rattle.gim_making.proofs.MadeLemmas.{ArePhisFirst, made_operands}
 use Rattle.gim_making.proofs.NameRowLemmas.{above, name_is_row}
-use Rattle.gim_making.proofs.PartLemmas.{text_itself, same_text_is}
+use Rattle.gim_making.proofs.PartLemmas.{same_text_is}
 use Rattle.gim_making.proofs.PlaceLemmas.{AreSmall, row_place}
 use Rattle.gim_making.proofs.SmallLemmas.{name_is_place}
 
@@ -107,13 +105,15 @@ distinct_digits : (rows : List NameRow) → rises (map version_of rows) ≡ true
 unfolding IsDistinct
 distinct_digits [] up h = tt
 distinct_digits (row ∷ rows) up h =
-    let p = and_parts (list_all (nat_lt row.version) (map version_of rows)) (rises (map version_of rows)) up in
-    (all_by (λ y. same_text (version_digits row) y ≡ false) (map version_digits rows) (λ y there.
-    let r = from_map version_digits rows y there in
-    false_from (same_text (version_digits row) y) (λ same.
-    let equal : row.version ≡ r.0.version = sym (h row (inl refl)) ∙ ap number_of (same_text_is (version_digits row) y same ∙ sym r.2) ∙ h r.0 (inr r.1) in
-    let far : row.version < r.0.version = above row.version rows p.0 r.0 r.1 in
-    absurd (omega arith))), distinct_digits rows p.1 (λ x there. h x (inr there)))
+    let p = and_parts (list_all (nat_lt row.version) (map version_of rows)) (rises (map version_of rows)) up in (
+      all_by (λ y. same_text (version_digits row) y ≡ false) (map version_digits rows) (λ y there.
+          let r = from_map version_digits rows y there in
+          false_from (same_text (version_digits row) y) (λ same.
+          let equal : row.version ≡ r.0.version = sym (h row (inl refl)) ∙ ap number_of (same_text_is (version_digits row) y same ∙ sym r.2) ∙ h r.0 (inr r.1) in
+          let far : row.version < r.0.version = above row.version rows p.0 r.0 r.1 in
+          absurd (omega arith))),
+      distinct_digits rows p.1 (λ x there. h x (inr there)),
+    )
 
 few_names : (source : List ℕ) (tree : FunctionText) (names : List NameRow) → KeepsNames source tree → AreSmall source tree → KeepsLimits source tree → AreNames (named_rows source tree) names → length names ≤ 20000
 few_names source tree names kept small limits are =

@@ -21,7 +21,7 @@ use Rattle.gim_text.specs.declared.tree.OperandText.TheVariants.{Name, Default, 
 use Rattle.gim_text.specs.declared.tree.RightForm.{RightForm}
 use Rattle.gim_text.specs.declared.tree.RightForm.TheVariants.{Copy, Unary, Cast, Binary, Choice}
 use Rattle.gim_names.specs.declared.mention.Mention.{Mention}
-use Rattle.gim_names.specs.declared.mention.Mention.TheVariants.{Param, Local, Block, Assigned, Used, UsedDefault, Constant}
+use Rattle.gim_names.specs.declared.mention.Mention.TheVariants.{Block, Assigned}
 use Rattle.gim_names.specs.Mentions.{mentions_of, mentions_of_block, mentions_of_item, mentions_of_end, mentions_of_right, mention_of_operand, mention_of_arg, mention_of_param, mention_of_local}
 use Rattle.gim_shape.specs.Kept.{HasNoPhi, HasPhisFirst}
 use Rattle.gim_making.specs.Declarations.{Declarations, declarations_of, version_of_name}

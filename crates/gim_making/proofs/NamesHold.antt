@@ -1,9 +1,8 @@
 -- The names of a function that is made hold.
-use Rattle.std.proofs.Common.{◌≡◌, ◌⊎◌, ℕ, ◌<◌, Bool, true, false, cond, Option, Some, None, List, [], ◌∷◌, ◌++◌, map, refl, sym, ap, subst, ◌∙◌, arith, inl, inr}
+use Rattle.std.proofs.Common.{◌≡◌, ℕ, ◌<◌, Bool, true, false, cond, Option, Some, None, List, [], ◌∷◌, ◌++◌, map, refl, sym, ap, subst, ◌∙◌, arith, inl, inr}
 use Rattle.std.specs.Prelude.{◌==◌, ◌&&◌, ◌||◌, not, nat_lt}
 use Rattle.std.specs.List.{flat_map, list_any, list_all}
 use Rattle.std.specs.Option.{option_or, unwrap_or}
-use Rattle.std.specs.Fmt.{decimal}
 use Rattle.std.proofs.lemmas.Bool.{and_parts, and_from, eqb-true, false≢true}
 use Rattle.pm_wide.specs.Types.{Ty, bool_type}
 use Rattle.gim_ast.specs.declared.function.Decl.{Decl}
@@ -19,7 +18,7 @@ use Rattle.gim_text.specs.Texts.{text_of, name_parts}
 use Rattle.gim_names.specs.declared.mention.Mention.{Mention}
 use Rattle.gim_names.specs.declared.mention.Mention.TheVariants.{Param, Local, Block, Assigned, Used, UsedDefault, Constant}
 use Rattle.gim_names.specs.Mentions.{mentions_of}
-use Rattle.gim_names.specs.Parts.{all_said, version_in, assigned_version, base_default}
+use Rattle.gim_names.specs.Parts.{with_some, all_said, version_in, assigned_version, base_default}
 use Rattle.gim_names.specs.Kept.{KeepsNames, locals_of, params_of, has_base, has_param, ident_text}
 use Rattle.gim_making.specs.declared.places.NamePlace.{NamePlace}
 use Rattle.gim_making.specs.Declarations.{Declarations, declarations_of, declared_type, type_by_base, type_by_parts, type_of_name, number_of, version_of_name, version_by_parts}
@@ -29,7 +28,7 @@ use Rattle.gim_making.specs.Trees.{decl_of}
 use Rattle.gim_making.proofs.Membership.{Has, has_left, has_flat, from_flat, from_map, all_from_has, any_from_has, none_from_has}
 use Rattle.gim_making.proofs.MentionLemmas.{place_of_mention}
 use Rattle.gim_making.proofs.MadeLemmas.{ArePhisFirst, assigned_number, made_assigns}
-use Rattle.gim_making.proofs.PartLemmas.{text_itself, same_text_is, parts_are, anonymous_has_parts, bare_is_anonymous, IsSmall, same_number, declared_some, declares, typed, some_is}
+use Rattle.gim_making.proofs.PartLemmas.{text_itself, same_text_is, parts_are, anonymous_has_parts, IsSmall, same_number, declared_some, declares, typed, some_is}
 use Rattle.gim_making.proofs.PlaceLemmas.{AreSmall, PlaceFacts, has_said, one_each, in_names, mentioned, place_facts, param_not_bare, row_at, one_row_at, row_place, place_row}
 use Rattle.gim_making.proofs.NameRowLemmas.{above, row_is_name, name_is_row}
 use Rattle.gim_making.proofs.UseLemmas.{assigned_to, assigned_from, used_is_assigned, used_from, default_is_used}
@@ -251,8 +250,8 @@ assigned_at source (Used at) y h = absurd h
 assigned_at source (UsedDefault at) y h = absurd h
 assigned_at source (Constant at fits) y h = absurd h
 
-said_first : {X : Type 0} (o : Option X) (x : X) (xs : List X) → o ≡ Some x → Rattle.gim_names.specs.Parts.with_some o xs ≡ x ∷ xs
-said_first o x xs e = ap (λ p. Rattle.gim_names.specs.Parts.with_some p xs) e
+said_first : {X : Type 0} (o : Option X) (x : X) (xs : List X) → o ≡ Some x → with_some o xs ≡ x ∷ xs
+said_first o x xs e = ap (λ p. with_some p xs) e
 
 distinct_numbers : (source : List ℕ) (ms : List Mention) → AssignsSmall source ms → all_distinct same_text (all_said (assigned_version source) ms) ≡ true → all_distinct ◌==◌ (flat_map (assigned_number source) ms) ≡ true
 distinct_numbers source [] small h = refl

@@ -1,10 +1,10 @@
 -- The operands of a function that is made hold, and where no type is at fault each phi, statement and end fits.
-use Rattle.std.proofs.Common.{◌≡◌, ◌⊎◌, ℕ, ◌^◌, ◌<◌, Bool, true, false, cond, Option, Some, None, List, [], ◌∷◌, ◌++◌, map, refl, sym, ap, subst, ◌∙◌, inl, inr}
+use Rattle.std.proofs.Common.{◌≡◌, ℕ, ◌^◌, Bool, true, false, cond, Option, Some, None, List, [], ◌∷◌, map, refl, sym, ap, subst, ◌∙◌, inl, inr}
 use Rattle.std.specs.Prelude.{◌&&◌, nat_lt, ℤ}
 use Rattle.std.specs.List.{flat_map, list_all}
 use Rattle.std.specs.Option.{option_map_or, unwrap_or}
-use Rattle.std.proofs.lemmas.Bool.{and_parts, and_from, lt-ltb, false≢true}
-use Rattle.pm_wide.specs.Types.{Ty, Word, same_type, in_range, word, int_type, unsigned_int_type}
+use Rattle.std.proofs.lemmas.Bool.{and_parts, and_from, lt-ltb}
+use Rattle.pm_wide.specs.Types.{Ty, same_type, in_range, word, int_type, unsigned_int_type, long_type, unsigned_long_type}
 use Rattle.pm_wide.specs.declared.operand.Operand.{Operand}
 use Rattle.pm_wide.proofs.Words.{word-below}
 use Rattle.gim_ast.specs.declared.function.Block.{Block}
@@ -12,11 +12,11 @@ use Rattle.gim_ast.specs.declared.function.NameRow.{NameRow}
 use Rattle.gim_ast.specs.declared.function.Phi.{Phi}
 use Rattle.gim_ast.specs.declared.function.Stmt.{Stmt}
 use Rattle.gim_ast.specs.Functions.{operands_of, row_of}
+use Rattle.gim_ast.specs.Numbers.{number_after}
 use Rattle.gim_ast.specs.WellFormed.{type_of, is_type_of, is_word, operand_holds, rhs_fits, phi_fits, stmt_fits, end_fits, block_fits, operands_hold}
 use Rattle.pm_ops.specs.Codes.{is_comparison_code}
 use Rattle.gim_text.specs.declared.token.Span.{Span}
 use Rattle.gim_text.specs.declared.fault.GimpleFault.{GimpleFault}
-use Rattle.gim_text.specs.declared.tree.ArgText.{ArgText}
 use Rattle.gim_text.specs.declared.tree.BlockText.{BlockText}
 use Rattle.gim_text.specs.declared.tree.EndText.{EndText}
 use Rattle.gim_text.specs.declared.tree.EndText.TheVariants.{Goto, If, Return}
@@ -30,14 +30,14 @@ use Rattle.gim_text.specs.declared.tree.OperandText.{OperandText}
 use Rattle.gim_text.specs.declared.tree.OperandText.TheVariants.{Name, Default, Literal}
 use Rattle.gim_text.specs.declared.tree.RightForm.{RightForm}
 use Rattle.gim_text.specs.declared.tree.RightForm.TheVariants.{Copy, Unary, Cast, Binary, Choice}
-use Rattle.gim_text.specs.Faults.{fault_at, first_fault}
-use Rattle.gim_text.specs.Literals.{literal_type, literal_word, word_in}
-use Rattle.gim_text.specs.Texts.{text_of, name_parts}
+use Rattle.gim_text.specs.Faults.{first_fault}
+use Rattle.gim_text.specs.Literals.{signed, literal_type, literal_word}
+use Rattle.gim_text.specs.Texts.{text_of, leading_digits}
 use Rattle.gim_names.specs.declared.mention.Mention.TheVariants.{Used, UsedDefault}
 use Rattle.gim_names.specs.Kept.{KeepsNames}
 use Rattle.gim_making.specs.declared.places.NamePlace.{NamePlace}
 use Rattle.gim_making.specs.Declarations.{Declarations, declarations_of, type_of_name, number_of, version_of_name, version_by_parts}
-use Rattle.gim_making.specs.Names.{AreNames, plain, default_at, names_of_item, names_of_end, names_of_block, names_of_decl, names_in, named_rows}
+use Rattle.gim_making.specs.Names.{AreNames, first_of, plain, default_at, names_of_item, names_of_end, names_of_block, names_of_decl, names_in, named_rows}
 use Rattle.gim_making.specs.Standing.{made}
 use Rattle.gim_making.specs.Trees.{no_word, operand_of, rhs_of, arg_of, phi_of, stmt_of, end_of, block_of}
 use Rattle.gim_making.specs.Types.{type_of_operand, form_fits, start_of, mismatch, place_of_arg, places_of_item, places_of_end, places_of_block, places_of_function}
@@ -45,7 +45,7 @@ use Rattle.gim_making.specs.Written.{operand_is_written, type_is_written, texts_
 use Rattle.gim_making.proofs.Membership.{Has, has_left, has_right, has_map, from_map, has_flat, from_flat, all_from_has, all_has}
 use Rattle.gim_making.proofs.MadeLemmas.{ArePhisFirst, made_operands}
 use Rattle.gim_making.proofs.PartLemmas.{type_itself}
-use Rattle.gim_making.proofs.PlaceLemmas.{AreSmall, PlaceFacts, in_names, place_facts, row_at, place_row}
+use Rattle.gim_making.proofs.PlaceLemmas.{AreSmall, in_names, place_facts, row_at, place_row}
 use Rattle.gim_making.proofs.NameRowLemmas.{found_row}
 use Rattle.gim_making.proofs.UseLemmas.{text_is_mentioned}
 
@@ -87,7 +87,7 @@ found source tree names kept small are place there =
     let f = place_facts source tree kept small place there in
     let row = row_at source tree place f in
     let version : version_of_name source place.at ≡ number_of f.digits = ap version_by_parts f.parts in
-    (row, ap (λ v. Rattle.gim_making.specs.Names.first_of v names) version ∙ found_row source tree names kept small are row (place_row source tree place f there), refl)
+    (row, ap (λ v. first_of v names) version ∙ found_row source tree names kept small are row (place_row source tree place f there), refl)
 
 name_holds : (source : List ℕ) (tree : FunctionText) (names : List NameRow) → KeepsNames source tree → AreSmall source tree → AreNames (named_rows source tree) names → (place : NamePlace) → Has (names_in source tree) place
     → option_map_or (λ (row : NameRow). same_type row.ty (type_of_name (declarations_of source tree) place.at)) (row_of (made source tree names) (version_of_name source place.at)) false ≡ true
@@ -103,8 +103,8 @@ plain_type true t u h k = h
 plain_type false t u h k = k
 
 literal_has_type : (ty : LiteralType) (z : ℤ) → type_is_written ty ≡ true → is_type_of (literal_type ty z) ≡ true
-literal_has_type Plain z h = plain_type (in_range int_type z) int_type Rattle.pm_wide.specs.Types.long_type refl refl
-literal_has_type Unsigned z h = plain_type (in_range unsigned_int_type z) unsigned_int_type Rattle.pm_wide.specs.Types.unsigned_long_type refl refl
+literal_has_type Plain z h = plain_type (in_range int_type z) int_type long_type refl refl
+literal_has_type Unsigned z h = plain_type (in_range unsigned_int_type z) unsigned_int_type unsigned_long_type refl refl
 literal_has_type Long z h = refl
 literal_has_type UnsignedLong z h = refl
 literal_has_type (Written t) z h = h
@@ -116,7 +116,7 @@ word_by_range false t z h = refl
 literal_is_word : (source : List ℕ) (literal : LiteralText) → type_is_written literal.ty ≡ true → is_word (unwrap_or (literal_word source literal) no_word) ≡ true
 unfolding literal_word
 literal_is_word source literal h =
-    let z = Rattle.gim_text.specs.Literals.signed literal.negative (Rattle.gim_ast.specs.Numbers.number_after 0 (Rattle.gim_text.specs.Texts.leading_digits (text_of source literal.number))) in
+    let z = signed literal.negative (number_after 0 (leading_digits (text_of source literal.number))) in
     let t = literal_type literal.ty z in
     word_by_range (in_range t z) t z (literal_has_type literal.ty z h)
 

@@ -1,10 +1,9 @@
 -- What is known of each place of a name, where the rules on names are kept and versions are below the limit.
-use Rattle.std.proofs.Common.{◌≡◌, ◌⊎◌, ℕ, Bool, true, false, cond, Option, Some, None, option_map, List, [], ◌∷◌, ◌++◌, map, refl, sym, ap, subst, ◌∙◌, inl, inr}
-use Rattle.std.specs.Prelude.{◌&&◌, ◌||◌, not}
-use Rattle.std.specs.List.{flat_map, list_any, list_all}
-use Rattle.std.specs.Option.{unwrap_or}
+use Rattle.std.proofs.Common.{◌≡◌, ◌⊎◌, ℕ, Bool, true, false, cond, Option, Some, None, List, [], ◌∷◌, ◌++◌, refl, sym, ap, subst, ◌∙◌, inl, inr}
+use Rattle.std.specs.Prelude.{◌||◌, not}
+use Rattle.std.specs.List.{list_any}
 use Rattle.std.proofs.lemmas.Bool.{and_parts, and_from, false≢true}
-use Rattle.pm_wide.specs.Types.{Ty, bool_type}
+use Rattle.pm_wide.specs.Types.{Ty}
 use Rattle.gim_ast.specs.declared.function.NameRow.{NameRow}
 use Rattle.gim_ast.specs.Identifiers.{is_anonymous}
 use Rattle.gim_ast.specs.WellFormed.{same_text}
@@ -20,11 +19,11 @@ use Rattle.gim_names.specs.Tables.{have_one_each}
 use Rattle.gim_names.specs.Kept.{KeepsNames, locals_of, params_of, assigned_of, has_base, has_param, is_declared}
 use Rattle.gim_names.proofs.Saying.{declares}
 use Rattle.gim_making.specs.declared.places.NamePlace.{NamePlace}
-use Rattle.gim_making.specs.Declarations.{Declarations, declarations_of, type_by_base, type_by_parts, type_of_name, number_of}
+use Rattle.gim_making.specs.Declarations.{declarations_of, type_by_parts, type_of_name, number_of}
 use Rattle.gim_making.specs.Names.{plain, default_at, names_in, rows_by_parts, rows_of_place, named_rows}
 use Rattle.gim_making.proofs.Membership.{Has, has_flat, from_flat, all_has, any_from_has}
 use Rattle.gim_making.proofs.MentionLemmas.{place_of_mention, names_are_mentioned}
-use Rattle.gim_making.proofs.PartLemmas.{text_itself, same_text_is, parts_are, anonymous_has_parts, IsSmall, same_number, typed}
+use Rattle.gim_making.proofs.PartLemmas.{text_itself, same_text_is, parts_are, anonymous_has_parts, IsSmall, same_number}
 
 -- ---- what a list says
 

@@ -1,12 +1,10 @@
 -- What is assigned and used in a function that is made, by the mentions of its tree.
-use Rattle.std.proofs.Common.{◌≡◌, ◌⊎◌, ℕ, Bool, true, false, Option, Some, None, List, [], ◌∷◌, ◌++◌, map, refl, sym, ap, subst, ◌∙◌, inl, inr}
-use Rattle.std.specs.Prelude.{◌==◌, ◌&&◌}
+use Rattle.std.proofs.Common.{◌≡◌, ◌⊎◌, ℕ, true, Some, List, map, refl, sym, ap, subst, ◌∙◌, inl, inr}
+use Rattle.std.specs.Prelude.{◌==◌}
 use Rattle.std.specs.List.{flat_map, list_any}
 use Rattle.std.proofs.lemmas.Bool.{and_parts, eqb-true, eq-eqb, false≢true}
-use Rattle.pm_wide.specs.declared.operand.Operand.{Operand}
-use Rattle.pm_wide.specs.declared.operand.Operand.TheVariants as operands
 use Rattle.gim_ast.specs.declared.function.NameRow.{NameRow}
-use Rattle.gim_ast.specs.Functions.{is_name, operands_of, assigned}
+use Rattle.gim_ast.specs.Functions.{is_name}
 use Rattle.gim_ast.specs.Removal.{is_used}
 use Rattle.gim_ast.specs.WellFormed.{same_text, is_assigned}
 use Rattle.gim_text.specs.declared.token.Span.{Span}
@@ -17,7 +15,7 @@ use Rattle.gim_text.specs.Texts.{text_of, name_parts}
 use Rattle.gim_names.specs.declared.mention.Mention.{Mention}
 use Rattle.gim_names.specs.declared.mention.Mention.TheVariants.{Param, Local, Block, Assigned, Used, UsedDefault, Constant}
 use Rattle.gim_names.specs.Mentions.{mentions_of, mention_of_operand}
-use Rattle.gim_names.specs.Parts.{all_said, assigned_text}
+use Rattle.gim_names.specs.Parts.{assigned_text}
 use Rattle.gim_names.specs.Kept.{KeepsNames, locals_of, params_of, assigned_of, has_base, is_declared}
 use Rattle.gim_making.specs.Declarations.{declarations_of, version_of_name, version_by_parts}
 use Rattle.gim_making.specs.Standing.{made}
@@ -52,7 +50,8 @@ assigned_from source tree names first v h =
     let r = any_has (λ y. y == v) (flat_map (assigned_number source) (mentions_of source tree)) (sym (ap (list_any (λ y. y == v)) (made_assigns source tree names first)) ∙ h) in
     let m = from_flat (assigned_number source) (mentions_of source tree) r.0 r.1 in
     let found = assigned_in_one source (mentions_of source tree) m.0 r.0 m.1 m.2 in
-    (found.0, found.1, found.2 ∙ eqb-true r.0 v r.2)
+    let same : r.0 ≡ v = eqb-true r.0 v r.2 in
+    (found.0, found.1, subst (λ y. version_of_name source found.0 ≡ y) same found.2)
 
 -- what is used without `(D)` is assigned
 text_assigned : (source : List ℕ) (m : Mention) (text : List ℕ) → assigned_text source m ≡ Some text → (at : Span) × (m ≡ Assigned at) × (text_of source at ≡ text)
