@@ -1,0 +1,9 @@
+pub mod FaultLemmas
+pub mod DeclaredLemmas
+pub mod RowLemmas
+pub mod ListLemmas
+pub mod Membership
+pub mod MentionLemmas
+pub mod MadeLemmas
+pub mod PartLemmas
+pub mod PlaceLemmas

@@ -1,0 +1,5 @@
+pub mod OrLemmas
+pub mod TableLemmas
+pub mod Judging
+pub mod Saying
+pub mod Keeping

@@ -1,0 +1,6 @@
+pub mod Mentions
+pub mod Parts
+pub mod Rules
+pub mod NamesFault
+pub mod Tables
+pub mod Kept
