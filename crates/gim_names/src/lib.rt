@@ -67,3 +67,6 @@ pub fn check_names(
     }
     Ok(())
 }
+
+#[cfg(test)]
+mod tests;
