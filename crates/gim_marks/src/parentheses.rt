@@ -1,0 +1,27 @@
+//! What stands in parentheses and is dropped: any tokens whose parentheses pair.
+
+ghost use Rattle.std.specs.Prelude.{◌≡◌, ◌<◌, length, IfOk};
+ghost use Rattle.grammar.specs.Gives.{Gives};
+ghost use Rattle.gim_marks.specs.Readers.{closing_at};
+
+use gim_text::{Mark, Part, Span, Token, TokenFault};
+use grammar::Fault;
+
+/// The place of the `)` that closes what was opened before these tokens, after tokens whose parentheses pair.
+pub fn read_closing(part: Part, tokens: &[Token]) -> Result<(Span, &[Token]), TokenFault<'_>>
+    ensures reads { Gives (λ x. (x.0, x.1.now)) result (closing_at part tokens.now) }
+    ensures shorter { IfOk result (λ x. length x.1.now < length tokens.now) }
+{
+    let mut depth: usize = 0;
+    let mut rest = tokens;
+    while let [first, after @ ..] = rest {
+        match first {
+            Token::Mark(Mark::Open, _) => depth += 1,
+            Token::Mark(Mark::Close, at) if depth == 0 => return Ok((*at, after)),
+            Token::Mark(Mark::Close, _) => depth -= 1,
+            _ => {}
+        }
+        rest = after;
+    }
+    Err(Fault { kind: part, rest })
+}
