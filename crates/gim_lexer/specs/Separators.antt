@@ -30,7 +30,8 @@ unfoldable pub length_to_star_slash : List ℕ → Option ℕ
 length_to_star_slash [] = None
 length_to_star_slash (b ∷ text) = if opens (b ∷ text) (codes "*/") then Some 2 else option_map (λ n. 1 + n) (length_to_star_slash text)
 
--- How long a separator is that begins a text: one byte of white space, a note, or a comment (`/*` up to the first `*/` behind it)
+-- How long a separator is that begins a text: one byte of white space, a note, or a comment (`/*` up to the first `*/` behind it).
+-- A comment without its end is none
 unfoldable pub separator_length : Bool → List ℕ → Option ℕ
 separator_length line_begins text =
     if begins_with_space text then Some 1

@@ -29,7 +29,7 @@ pub record IsQuoted (text : List ℕ) : Type 0 where
   pub parts : text ≡ 34 ∷ (inner ++ 34 ∷ [])
   pub on_one_line : IsTrue (list_all is_inner inner)
 
--- the text is one that the token may have
+-- the text is one that the token may have, wherever it stands
 abbrev pub Spells : List ℕ → Token → Type 0
 Spells text (tokens.TypeWord word at) = type_word_of text ≡ Some word
 Spells text (tokens.Keyword word at) = keyword_of text ≡ Some word

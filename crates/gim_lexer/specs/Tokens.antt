@@ -50,7 +50,8 @@ mark_at at [] = None
 mark_at at (a ∷ []) = mark_from at None (short_mark a)
 mark_at at (a ∷ b ∷ text) = mark_from at (long_mark a b) (short_mark a)
 
--- the token that stands at the front of a text, if any does, where the text begins at place `at`; `/*` begins none
+-- The token that stands at the front of a text, if any does, where the text begins at place `at`. `/*` begins none, so nothing
+-- begins at a comment without its end
 unfoldable pub token_of_text : ℕ → List ℕ → Option Token
 token_of_text at [] = None
 token_of_text at (b ∷ text) =

@@ -1,7 +1,8 @@
 //! The tokens of GIMPLE text, each as long as it can be, with their places.
 //!
 //! At a place there begins a separator (`separators`) or a token (`tokens`): a word (`words`), a number (`numbers`), a
-//! text or a mark (`marks`). `lex` goes from one to the next. `laws` has what holds of all tokens of a source.
+//! text or a mark (`marks`). `pieces` says which, and `lex` goes from one to the next. `bytes` has the runs of bytes that
+//! they stand on, `tables` the look-up of words and suffixes. `laws` has what holds of all tokens of a source.
 #![tactic(auto)]
 
 mod bytes;
@@ -36,7 +37,8 @@ pub fn lex(alloc: Global, source: &[u8]) -> Result<Vec<Token>, GimpleFault>
     // What is answered are the tokens of the source.
     ensures found { IfOk result (λ tokens. AreTokens source.now tokens.items) }
     // A source that has tokens is not refused, unless memory runs out.
-    ensures only { (tokens : List Token) → AreTokens source.now tokens → MatchResult result (λ found. found.items ≡ tokens) (λ fault. fault ≡ memory_fault) }
+    ensures only { (tokens : List Token) → AreTokens source.now tokens →
+        MatchResult result (λ found. found.items ≡ tokens) (λ fault. fault ≡ memory_fault) }
     // Else the fault is at the first place where nothing begins.
     ensures fault { IfErr result (IsCause source.now) }
 {
