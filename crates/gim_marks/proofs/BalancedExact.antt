@@ -1,5 +1,5 @@
 -- Tokens whose parentheses pair, with the `)` after them, are read exactly.
-use Rattle.std.proofs.Common.{◌≡◌, ℕ, zero, suc, List, [], ◌∷◌, ◌++◌, Ok, Err, refl, sym, ap, subst, ◌∙◌, append_assoc}
+use Rattle.std.proofs.Common.{◌≡◌, ℕ, zero, suc, List, [], ◌∷◌, ◌++◌, Ok, refl, sym, ap, subst, ◌∙◌, append_assoc}
 use Rattle.grammar.specs.Spelling.{Begins, Nothing}
 use Rattle.grammar.specs.Exact.{IsExact}
 use Rattle.grammar.proofs.Parts as parts
@@ -9,7 +9,7 @@ use Rattle.gim_text.specs.declared.token.Token.{Token}
 use Rattle.gim_text.specs.declared.token.Token.TheVariants as tokens
 use Rattle.gim_text.specs.declared.token.Mark.TheVariants as marks
 use Rattle.gim_text.specs.declared.fault.Part.{Part}
-use Rattle.gim_marks.specs.Grammar.{IsNoParenthesis, IsBalanced, none_left, further, paired, Closing}
+use Rattle.gim_marks.specs.Grammar.{GoesOnNothing, IsNoParenthesis, IsBalanced, none_left, further, paired, Closing}
 use Rattle.gim_marks.specs.Readers.{closing_within, closing_at}
 use Rattle.gim_marks.proofs.Parts.{Reads, in_words}
 
@@ -31,17 +31,17 @@ some_closing (suc depth) =
     let inner = some_closing depth in
     record { value = inner.value; after = tokens.Mark marks.Close somewhere ∷ inner.after; spelled = inner.spelled }
 
-closing_exact : (depth : ℕ) (part : Part) (input : List Token) → IsExact (Closes depth) Never input (closing_within depth part input)
+within_exact : (depth : ℕ) (part : Part) (input : List Token) → IsExact (Closes depth) Never input (closing_within depth part input)
 unfolding Closes
-closing_exact depth part [] = parts.refused (Closes depth) Never part (some_closing depth) [] (λ x none far. none) (λ t rest e. absurd (cc))
-closing_exact depth part (tokens.Mark marks.Open at ∷ rest) =
-    parts.from_token (Closes depth) (Closes (suc depth)) Never (tokens.Mark marks.Open at) rest (closing_within (suc depth) part rest) (λ x w s. s) (λ x w s. s) (λ x s. s) (closing_exact (suc depth) part rest)
-closing_exact zero part (tokens.Mark marks.Close at ∷ rest) =
+within_exact depth part [] = parts.refused (Closes depth) Never part (some_closing depth) [] (λ x none far. none) (λ t rest e. absurd (cc))
+within_exact depth part (tokens.Mark marks.Open at ∷ rest) =
+    parts.from_token (Closes depth) (Closes (suc depth)) Never (tokens.Mark marks.Open at) rest (closing_within (suc depth) part rest) (λ x w s. s) (λ x w s. s) (λ x s. s) (within_exact (suc depth) part rest)
+within_exact zero part (tokens.Mark marks.Close at ∷ rest) =
     parts.from_token (Closes zero) (Nothing at) Never (tokens.Mark marks.Close at) rest (Ok (at, rest)) (λ x w s. s) (λ x w s. s) (λ x s. s) (parts.nothing at Never rest)
-closing_exact (suc depth) part (tokens.Mark marks.Close at ∷ rest) =
-    parts.from_token (Closes (suc depth)) (Closes depth) Never (tokens.Mark marks.Close at) rest (closing_within depth part rest) (λ x w s. s) (λ x w s. s) (λ x s. s) (closing_exact depth part rest)
-closing_exact depth part (t ∷ rest) =
-    parts.from_token (Closes depth) (Closes depth) Never t rest (closing_within depth part rest) (λ x w s. s) (λ x w s. s) (λ x s. s) (closing_exact depth part rest)
+within_exact (suc depth) part (tokens.Mark marks.Close at ∷ rest) =
+    parts.from_token (Closes (suc depth)) (Closes depth) Never (tokens.Mark marks.Close at) rest (closing_within depth part rest) (λ x w s. s) (λ x w s. s) (λ x s. s) (within_exact depth part rest)
+within_exact depth part (t ∷ rest) =
+    parts.from_token (Closes depth) (Closes depth) Never t rest (closing_within depth part rest) (λ x w s. s) (λ x w s. s) (λ x s. s) (within_exact depth part rest)
 
 -- any other token, and what pairs, leaves the depth as it was
 passed_token : (depth : ℕ) (at : Span) (t : Token) (v : List Token) → IsNoParenthesis t → Closes depth at v → Closes depth at (t ∷ v)
@@ -103,8 +103,11 @@ closes_of : (at : Span) (w : List Token) → Closing at w → Closes zero at w
 unfolding Closes
 closes_of at w (u, balanced, cut) = subst (λ l. Closes zero at l) (sym cut) (passed zero at u (tokens.Mark marks.Close at ∷ []) balanced (refl, refl))
 
+pub closing_exact : (part : Part) (input : List Token) → IsExact Closing GoesOnNothing input (closing_at part input)
+closing_exact part input = parts.in_words (Closes zero) Closing GoesOnNothing input (closing_at part input) closing_of closes_of (within_exact zero part input)
+
 -- Tokens whose parentheses pair, and the `)` after them.
 pub closing_reads : (part : Part) → Reads Closing Never (closing_at part)
 closing_reads part =
     in_words (Closes zero) Closing Never (closing_at part) closing_of closes_of
-    (record { some = some_closing zero; exact = λ input. closing_exact zero part input })
+    (record { some = some_closing zero; exact = λ input. within_exact zero part input })

@@ -1,6 +1,8 @@
 -- Single tokens are read exactly.
 use Rattle.std.proofs.Common.{◌≡◌, List, [], ◌∷◌, Some, None, true, refl, if◌then◌else◌, ap}
 use Rattle.grammar.specs.Spelling.{Begins, Meant}
+use Rattle.grammar.specs.Exact.{IsExact}
+use Rattle.grammar.proofs.Parts.{meant}
 use Rattle.gim_text.specs.declared.token.Span.{Span}
 use Rattle.gim_text.specs.declared.token.Token.{Token}
 use Rattle.gim_text.specs.declared.token.Token.TheVariants as tokens
@@ -12,6 +14,7 @@ use Rattle.gim_text.specs.declared.token.NumberKind.TheVariants.{Plain}
 use Rattle.gim_text.specs.declared.fault.Part.{Part}
 use Rattle.gim_text.specs.Meanings.{same_mark, same_keyword, mark, keyword, identifier, block_word}
 use Rattle.gim_marks.specs.Readers.{plain_number, mark_at, keyword_at, name_at, block_word_at, plain_number_at}
+use Rattle.gim_marks.specs.Grammar.{GoesOnNothing}
 use Rattle.gim_marks.proofs.Parts.{Reads, one_token}
 
 somewhere : Span
@@ -47,6 +50,21 @@ some_block_word = record { value = somewhere; after = tokens.BlockWord somewhere
 
 pub some_plain_number : Begins (Meant plain_number) []
 some_plain_number = record { value = somewhere; after = tokens.Number Plain somewhere ∷ []; spelled = (tokens.Number Plain somewhere, refl, refl) }
+
+pub mark_exact : (m : Mark) (part : Part) (input : List Token) → IsExact (Meant (mark m)) GoesOnNothing input (mark_at m part input)
+mark_exact m part input = meant (mark m) part GoesOnNothing (some_mark m) input
+
+pub keyword_exact : (k : Keyword) (part : Part) (input : List Token) → IsExact (Meant (keyword k)) GoesOnNothing input (keyword_at k part input)
+keyword_exact k part input = meant (keyword k) part GoesOnNothing (some_keyword k) input
+
+pub name_exact : (part : Part) (input : List Token) → IsExact (Meant identifier) GoesOnNothing input (name_at part input)
+name_exact part input = meant identifier part GoesOnNothing some_name input
+
+pub block_word_exact : (part : Part) (input : List Token) → IsExact (Meant block_word) GoesOnNothing input (block_word_at part input)
+block_word_exact part input = meant block_word part GoesOnNothing some_block_word input
+
+pub plain_number_exact : (part : Part) (input : List Token) → IsExact (Meant plain_number) GoesOnNothing input (plain_number_at part input)
+plain_number_exact part input = meant plain_number part GoesOnNothing some_plain_number input
 
 -- Each mark.
 pub mark_reads : (m : Mark) (part : Part) (more : Token → Type 0) → Reads (Meant (mark m)) more (mark_at m part)

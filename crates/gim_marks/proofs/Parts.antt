@@ -1,5 +1,5 @@
 -- Readers that are exact at every input, put together part by part.
-use Rattle.std.proofs.Common.{◌≡◌, List, [], ◌∷◌, ◌++◌, Option, Ok, refl}
+use Rattle.std.proofs.Common.{List, [], ◌∷◌, ◌++◌, Option, Ok, refl}
 use Rattle.grammar.specs.Spelling.{Spelling, Begins, Nothing, Meant, Then, Mapped}
 use Rattle.grammar.specs.Reading.{Answer, ◌>>=◌, meant_at}
 use Rattle.grammar.specs.Exact.{IsApart, IsExact}

@@ -5,6 +5,10 @@ use Rattle.gim_text.specs.declared.token.Token.{Token}
 use Rattle.gim_text.specs.declared.token.Token.TheVariants as tokens
 use Rattle.gim_text.specs.declared.token.Mark.TheVariants as marks
 
+-- No token goes on what ends by itself.
+abbrev pub GoesOnNothing : Token → Type 0
+GoesOnNothing t = ⊥
+
 -- neither `(` nor `)`
 abbrev pub IsNoParenthesis : Token → Type 0
 IsNoParenthesis (tokens.Mark marks.Open at) = ⊥

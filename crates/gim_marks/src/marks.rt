@@ -1,7 +1,11 @@
 //! Readers of one token. A fault is at the token, or at the end where there is none.
 
 ghost use Rattle.std.specs.Prelude.{◌≡◌, ◌<◌, length, IfOk};
+ghost use Rattle.grammar.specs.Exact.{IsExact};
 ghost use Rattle.grammar.specs.Gives.{Gives};
+ghost use Rattle.grammar.specs.Spelling.{Meant};
+ghost use Rattle.gim_text.specs.Meanings as meanings;
+ghost use Rattle.gim_marks.specs.Grammar.{GoesOnNothing};
 ghost use Rattle.gim_marks.specs.Readers as readers;
 
 use gim_text::{
@@ -36,6 +40,7 @@ pub fn read_mark(
     tokens: &[Token],
 ) -> Result<(Span, &[Token]), TokenFault<'_>>
     ensures reads { Gives (λ x. (x.0, x.1.now)) result (readers.mark_at asked part tokens.now) }
+    ensures exact { IsExact (Meant (meanings.mark asked)) GoesOnNothing tokens.now (readers.mark_at asked part tokens.now) }
     ensures shorter { IfOk result (λ x. length x.1.now < length tokens.now) }
 {
     match tokens {
@@ -54,6 +59,7 @@ pub fn read_keyword(
     tokens: &[Token],
 ) -> Result<(Span, &[Token]), TokenFault<'_>>
     ensures reads { Gives (λ x. (x.0, x.1.now)) result (readers.keyword_at asked part tokens.now) }
+    ensures exact { IsExact (Meant (meanings.keyword asked)) GoesOnNothing tokens.now (readers.keyword_at asked part tokens.now) }
     ensures shorter { IfOk result (λ x. length x.1.now < length tokens.now) }
 {
     match tokens {
@@ -66,8 +72,10 @@ pub fn read_keyword(
 }
 
 /// The place of an identifier that is not reserved.
+#[tactic(auto, using(crate::proofs::MarksExact::name_exact))]
 pub fn read_name(part: Part, tokens: &[Token]) -> Result<(Span, &[Token]), TokenFault<'_>>
     ensures reads { Gives (λ x. (x.0, x.1.now)) result (readers.name_at part tokens.now) }
+    ensures exact { IsExact (Meant meanings.identifier) GoesOnNothing tokens.now (readers.name_at part tokens.now) }
     ensures shorter { IfOk result (λ x. length x.1.now < length tokens.now) }
 {
     match tokens {
@@ -80,8 +88,10 @@ pub fn read_name(part: Part, tokens: &[Token]) -> Result<(Span, &[Token]), Token
 }
 
 /// The place of `__BB` and a number in one word.
+#[tactic(auto, using(crate::proofs::MarksExact::block_word_exact))]
 pub fn read_block_word(part: Part, tokens: &[Token]) -> Result<(Span, &[Token]), TokenFault<'_>>
     ensures reads { Gives (λ x. (x.0, x.1.now)) result (readers.block_word_at part tokens.now) }
+    ensures exact { IsExact (Meant meanings.block_word) GoesOnNothing tokens.now (readers.block_word_at part tokens.now) }
     ensures shorter { IfOk result (λ x. length x.1.now < length tokens.now) }
 {
     match tokens {
@@ -104,8 +114,10 @@ fn plain_number(token: Token) -> Option<Span>
 }
 
 /// The place of a number of digits alone.
+#[tactic(auto, using(crate::proofs::MarksExact::plain_number_exact))]
 pub fn read_plain_number(part: Part, tokens: &[Token]) -> Result<(Span, &[Token]), TokenFault<'_>>
     ensures reads { Gives (λ x. (x.0, x.1.now)) result (readers.plain_number_at part tokens.now) }
+    ensures exact { IsExact (Meant readers.plain_number) GoesOnNothing tokens.now (readers.plain_number_at part tokens.now) }
     ensures shorter { IfOk result (λ x. length x.1.now < length tokens.now) }
 {
     match tokens {
