@@ -17,7 +17,7 @@ use Rattle.gim_names.specs.declared.mention.Mention.{Mention}
 use Rattle.gim_names.specs.declared.mention.Mention.TheVariants.{Param, Local, Block, Assigned, Used, UsedDefault, Constant}
 use Rattle.gim_names.specs.Mentions.{place_of, mentions_of}
 use Rattle.gim_names.specs.Parts.{with_some, all_said, param_text, local_text, declared_text, block_number, assigned_text, assigned_version, plain_version, default_version, version_base, base_default}
-use Rattle.gim_names.specs.Rules.{parts_company, stands, differs, is_declared_again, is_assigned_again, is_repeated, is_contradicted, is_marked_otherwise, has_other_base, has_other_mark, has_other_default, is_redefined, is_bare, lacks_base, lacks_param, is_unassigned, is_undeclared, is_wide}
+use Rattle.gim_names.specs.Rules.{has_other_second, stands, differs, is_declared_again, is_assigned_again, is_repeated, is_contradicted, is_marked_otherwise, has_other_base, has_other_mark, has_other_default, is_redefined, is_bare, lacks_base, lacks_param, is_unassigned, is_undeclared, is_wide}
 use Rattle.gim_names.specs.NamesFault.{first_by, first_kind, kind_of_mention, mention_fault, mentions_fault, function_text, second_function, function_fault, names_fault}
 use Rattle.gim_names.specs.Tables.{have_one_each}
 use Rattle.gim_names.specs.Kept.{locals_of, assigned_of, has_base, has_param, is_declared, has_word, KeepsNames}
@@ -85,15 +85,15 @@ module _ {M X : Type 0} (E : X → X → Bool) (symm : (x y : X) → E x y ≡ E
 stands_none : (o : Option (List ℕ)) (texts : List (List ℕ)) → stands o texts ≡ false → (x : List ℕ) → o ≡ Some x → list_any (same_text x) texts ≡ false
 stands_none o texts none x is = subst (λ (p : Option (List ℕ)). stands p texts ≡ false) is none
 
-differs_none : (o : Option (List ℕ × List ℕ)) (pairs : List (List ℕ × List ℕ)) → differs o pairs ≡ false → (x : List ℕ × List ℕ) → o ≡ Some x → list_any (parts_company x.0 x.1) pairs ≡ false
+differs_none : (o : Option (List ℕ × List ℕ)) (pairs : List (List ℕ × List ℕ)) → differs o pairs ≡ false → (x : List ℕ × List ℕ) → o ≡ Some x → list_any (has_other_second x.0 x.1) pairs ≡ false
 differs_none o pairs none x is = subst (λ (p : Option (List ℕ × List ℕ)). differs p pairs ≡ false) is none
 
-parts_symm : (p q : List ℕ × List ℕ) → parts_company p.0 p.1 q ≡ parts_company q.0 q.1 p
+parts_symm : (p q : List ℕ × List ℕ) → has_other_second p.0 p.1 q ≡ has_other_second q.0 q.1 p
 parts_symm p q = ap (λ (a : Bool). a && not (same_text p.1 q.1)) (same_text_symm p.0 q.0) ∙ ap (λ (b : Bool). same_text q.0 p.0 && not b) (same_text_symm p.1 q.1)
 
-one_each : (pairs : List (List ℕ × List ℕ)) → all_distinct (λ (p : List ℕ × List ℕ). parts_company p.0 p.1) pairs ≡ have_one_each pairs
+one_each : (pairs : List (List ℕ × List ℕ)) → all_distinct (λ (p : List ℕ × List ℕ). has_other_second p.0 p.1) pairs ≡ have_one_each pairs
 one_each [] = refl
-one_each (p ∷ pairs) = ap (λ (b : Bool). not (list_any (parts_company p.0 p.1) pairs) && b) (one_each pairs)
+one_each (p ∷ pairs) = ap (λ (b : Bool). not (list_any (has_other_second p.0 p.1) pairs) && b) (one_each pairs)
 
 -- ---- one kind of text never stands with another
 
@@ -270,9 +270,9 @@ keeps source f e =
           (distinct same_text same_text_symm (block_number source) (mention_fault source all) (λ before m n. stands_none (block_number source m) (all_said (block_number source) before) (again source all before m n).1) [] all none);
       assigned = distinct same_text same_text_symm (assigned_version source) (mention_fault source all) (λ before m n. stands_none (assigned_version source m) (all_said (assigned_version source) before) (repeats source all before m n).1) [] all none;
       bases = sym (one_each (all_said (version_base source) all))
-          ∙ distinct (λ (p : List ℕ × List ℕ). parts_company p.0 p.1) parts_symm (version_base source) (mention_fault source all) (λ before m n. differs_none (version_base source m) (all_said (version_base source) before) (contradicts source all before m n).0) [] all none;
+          ∙ distinct (λ (p : List ℕ × List ℕ). has_other_second p.0 p.1) parts_symm (version_base source) (mention_fault source all) (λ before m n. differs_none (version_base source m) (all_said (version_base source) before) (contradicts source all before m n).0) [] all none;
       defaults = sym (one_each (all_said (base_default source) all))
-          ∙ distinct (λ (p : List ℕ × List ℕ). parts_company p.0 p.1) parts_symm (base_default source) (mention_fault source all) (λ before m n. differs_none (base_default source m) (all_said (base_default source) before) (marked source all before m n).1) [] all none;
+          ∙ distinct (λ (p : List ℕ × List ℕ). has_other_second p.0 p.1) parts_symm (base_default source) (mention_fault source all) (λ before m n. differs_none (base_default source m) (all_said (base_default source) before) (marked source all before m n).1) [] all none;
       marks = λ version h. one_marked source all version [] all none h;
       names = subst (λ (xs : List (List ℕ)). list_all (is_declared source (locals_of source f) xs (assigned_of source f)) all ≡ true) says.params
           (subst (λ (xs : List (List ℕ)). list_all (is_declared source xs (all_said (param_text source) all) (assigned_of source f)) all ≡ true) says.locals

@@ -3,3 +3,5 @@ pub mod TableLemmas
 pub mod Judging
 pub mod Saying
 pub mod Keeping
+pub mod Places
+pub mod KeptParts

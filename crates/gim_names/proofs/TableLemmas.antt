@@ -9,7 +9,7 @@ use Rattle.std.specs.Cmp.Lexicographic.{nat_list_eq_equiv, bytes_decides}
 use Rattle.std.proofs.lemmas.Bool.{and_parts, and_from, not-true, not_from_false}
 use Rattle.gim_ast.specs.WellFormed.{same_text}
 use Rattle.gim_names.specs.Parts.{with_some}
-use Rattle.gim_names.specs.Rules.{parts_company, differs}
+use Rattle.gim_names.specs.Rules.{has_other_second, differs}
 use Rattle.gim_names.specs.Tables.{HasTexts, have_one_each}
 
 pub same_text_symm : (a b : List ℕ) → same_text a b ≡ same_text b a
@@ -42,9 +42,9 @@ none_by : (a : Bool) (value w : List ℕ) (rest : Bool) (found : Option (List �
 none_by true value w rest found later e = absurd cc
 none_by false value w rest found later e = later e
 
-pub other_none : (key value : List ℕ) (pairs : List (List ℕ × List ℕ)) → lookup (same_text key) pairs ≡ None → list_any (parts_company key value) pairs ≡ false
+pub other_none : (key value : List ℕ) (pairs : List (List ℕ × List ℕ)) → lookup (same_text key) pairs ≡ None → list_any (has_other_second key value) pairs ≡ false
 other_none key value [] e = refl
-other_none key value (p ∷ pairs) e = none_by (same_text key p.0) value p.1 (list_any (parts_company key value) pairs) (lookup (same_text key) pairs) (λ h. other_none key value pairs h) e
+other_none key value (p ∷ pairs) e = none_by (same_text key p.0) value p.1 (list_any (has_other_second key value) pairs) (lookup (same_text key) pairs) (λ h. other_none key value pairs h) e
 
 -- at the value that the map has, there is no other one
 here_by : (s : Bool) (rest : Bool) → (s ≡ true → rest ≡ false) → (not s || rest) ≡ not s
@@ -57,18 +57,18 @@ found_by true value w found rest later one goes e =
     subst (λ (x : List ℕ). (not (same_text value w) || rest) ≡ not (same_text value x)) same (here_by (same_text value w) rest (one refl))
 found_by false value w found rest later one goes e = goes e
 
-pub other_some : (key value found : List ℕ) (pairs : List (List ℕ × List ℕ)) → have_one_each pairs ≡ true → lookup (same_text key) pairs ≡ Some found → list_any (parts_company key value) pairs ≡ not (same_text value found)
+pub other_some : (key value found : List ℕ) (pairs : List (List ℕ × List ℕ)) → have_one_each pairs ≡ true → lookup (same_text key) pairs ≡ Some found → list_any (has_other_second key value) pairs ≡ not (same_text value found)
 other_some key value found [] one e = absurd cc
 other_some key value found (p ∷ pairs) one e =
-    let t = and_parts (not (list_any (parts_company p.0 p.1) pairs)) (have_one_each pairs) one in
-    found_by (same_text key p.0) value p.1 found (list_any (parts_company key value) pairs) (lookup (same_text key) pairs)
-    (λ k v. rw ((bytes_decides key p.0).0 k, (bytes_decides value p.1).0 v) (not-true (list_any (parts_company p.0 p.1) pairs) t.0))
+    let t = and_parts (not (list_any (has_other_second p.0 p.1) pairs)) (have_one_each pairs) one in
+    found_by (same_text key p.0) value p.1 found (list_any (has_other_second key value) pairs) (lookup (same_text key) pairs)
+    (λ k v. rw ((bytes_decides key p.0).0 k, (bytes_decides value p.1).0 v) (not-true (list_any (has_other_second p.0 p.1) pairs) t.0))
     (λ h. other_some key value found pairs t.1 h) e
 
 -- one more pair that differs from none
 pub one_more : (o : Option (List ℕ × List ℕ)) (pairs : List (List ℕ × List ℕ)) → differs o pairs ≡ false → have_one_each pairs ≡ true → have_one_each (with_some o pairs) ≡ true
 one_more None pairs d one = one
-one_more (Some p) pairs d one = and_from (not (list_any (parts_company p.0 p.1) pairs)) (have_one_each pairs) (not_from_false (list_any (parts_company p.0 p.1) pairs) d) one
+one_more (Some p) pairs d one = and_from (not (list_any (has_other_second p.0 p.1) pairs)) (have_one_each pairs) (not_from_false (list_any (has_other_second p.0 p.1) pairs) d) one
 
 -- ---- places
 

@@ -1,15 +1,16 @@
 -- What holds of a file and of its functions where no name is at fault.
-use Rattle.std.specs.Prelude.{◌≡◌, ℕ, Bool, true, false, ◌&&◌, ◌||◌, Option, Some, None, List, [], ◌∷◌, ◌++◌, map}
+use Rattle.std.specs.Prelude.{◌≡◌, ℕ, Bool, true, false, ◌&&◌, ◌||◌, Option, Some, None, List, [], ◌∷◌, ◌++◌, map, Contains}
 use Rattle.std.specs.List.{list_any, list_all}
 use Rattle.gim_ast.specs.Identifiers.{is_anonymous}
 use Rattle.gim_ast.specs.WellFormed.{same_text, all_distinct}
 use Rattle.gim_text.specs.declared.tree.FunctionText.{FunctionText}
 use Rattle.gim_text.specs.declared.tree.DeclText.{DeclText}
 use Rattle.gim_text.specs.declared.tree.BlockText.{BlockText}
+use Rattle.gim_text.specs.declared.tree.ItemText.{ItemText}
 use Rattle.gim_text.specs.Texts.{text_of, name_parts}
 use Rattle.gim_names.specs.declared.mention.Mention.{Mention}
 use Rattle.gim_names.specs.declared.mention.Mention.TheVariants.{Assigned, Used, UsedDefault, Constant}
-use Rattle.gim_names.specs.Mentions.{mentions_of}
+use Rattle.gim_names.specs.Mentions.{mentions_of_item, mentions_of_end, mentions_of}
 use Rattle.gim_names.specs.Parts.{all_said, param_text, local_text, declared_text, block_number, assigned_text, assigned_version, plain_version, default_version, version_base, base_default}
 use Rattle.gim_names.specs.Tables.{have_one_each}
 
@@ -53,6 +54,12 @@ abbrev pub has_word : Mention → Bool
 has_word (Constant at fits) = fits
 has_word m = true
 
+abbrev pub are_declared : List ℕ → FunctionText → List Mention → Bool
+are_declared source f ms = list_all (is_declared source (locals_of source f) (params_of source f) (assigned_of source f)) ms
+
+abbrev pub have_words : List Mention → Bool
+have_words ms = list_all has_word ms
+
 pub record KeepsNames (source : List ℕ) (f : FunctionText) : Type 0 where
   -- parameters and locals have distinct identifiers, and no parameter is an anonymous name
   pub declared : all_distinct same_text (params_of source f ++ locals_of source f) ≡ true
@@ -68,9 +75,24 @@ pub record KeepsNames (source : List ℕ) (f : FunctionText) : Type 0 where
   pub marks : (version : List ℕ) → list_any (same_text version) (all_said (plain_version source) (mentions_of source f)) ≡ true
       → list_any (same_text version) (all_said (default_version source) (mentions_of source f)) ≡ false
   -- each name is declared, and assigned or a default definition of a parameter
-  pub names : list_all (is_declared source (locals_of source f) (params_of source f) (assigned_of source f)) (mentions_of source f) ≡ true
+  pub names : are_declared source f (mentions_of source f) ≡ true
   -- each constant has its word
-  pub constants : list_all has_word (mentions_of source f) ≡ true
+  pub constants : have_words (mentions_of source f) ≡ true
+
+-- what the names and constants of an item or an end keep
+pub record PartKeepsNames (source : List ℕ) (f : FunctionText) (ms : List Mention) : Type 0 where
+  pub names : are_declared source f ms ≡ true
+  pub constants : have_words ms ≡ true
+
+-- the same of each item of a block and of its end
+pub record BlockKeepsNames (source : List ℕ) (f : FunctionText) (block : BlockText) : Type 0 where
+  pub items : (item : ItemText) → Contains block.items item → PartKeepsNames source f (mentions_of_item source item)
+  pub end : PartKeepsNames source f (mentions_of_end source block.end)
+
+-- mentions of one version have one base, and default definitions of one parameter one version
+pub record AreOne (source : List ℕ) (m n : Mention) : Type 0 where
+  pub bases : (p q : List ℕ × List ℕ) → version_base source m ≡ Some p → version_base source n ≡ Some q → p.0 ≡ q.0 → p.1 ≡ q.1
+  pub defaults : (p q : List ℕ × List ℕ) → base_default source m ≡ Some p → base_default source n ≡ Some q → p.0 ≡ q.0 → p.1 ≡ q.1
 
 -- what the mentions of a function declare is what it declares
 pub record MentionsDeclare (source : List ℕ) (f : FunctionText) : Type 0 where

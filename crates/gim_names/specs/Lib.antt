@@ -4,3 +4,4 @@ pub mod Rules
 pub mod NamesFault
 pub mod Tables
 pub mod Kept
+pub mod FirstPlace

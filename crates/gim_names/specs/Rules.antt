@@ -15,14 +15,14 @@ abbrev pub stands : Option (List ℕ) → List (List ℕ) → Bool
 stands None texts = false
 stands (Some text) texts = list_any (same_text text) texts
 
--- a pair of this first part and another second part
-abbrev pub parts_company : List ℕ → List ℕ → List ℕ × List ℕ → Bool
-parts_company key value pair = same_text key pair.0 && not (same_text value pair.1)
+-- the pair has this first part and another second part
+abbrev pub has_other_second : List ℕ → List ℕ → List ℕ × List ℕ → Bool
+has_other_second key value pair = same_text key pair.0 && not (same_text value pair.1)
 
 -- the pair is there, and one of these has its first part and another second part
 abbrev pub differs : Option (List ℕ × List ℕ) → List (List ℕ × List ℕ) → Bool
 differs None pairs = false
-differs (Some pair) pairs = list_any (parts_company pair.0 pair.1) pairs
+differs (Some pair) pairs = list_any (has_other_second pair.0 pair.1) pairs
 
 -- ---- Redefined
 

@@ -11,7 +11,7 @@ use Rattle.gim_names.specs.declared.mention.Mention.{Mention}
 use Rattle.gim_names.specs.declared.scope.Scope.{Scope}
 use Rattle.gim_names.specs.declared.past.Past.{Past}
 use Rattle.gim_names.specs.Parts.{all_said, param_text, local_text, declared_text, block_number, assigned_text, assigned_version, plain_version, default_version, version_base, base_default}
-use Rattle.gim_names.specs.Rules.{parts_company}
+use Rattle.gim_names.specs.Rules.{has_other_second}
 
 -- the set has these texts and no others
 abbrev pub HasTexts : {S : Type 0} → HashSet (Bor (List ℕ)) S → List (List ℕ) → Type 0
@@ -24,7 +24,7 @@ HasPairs map pairs = (q : List ℕ) → option_map (λ v. v.now) (get_by (λ k. 
 -- no two pairs have one first part and two second parts
 abbrev pub have_one_each : List (List ℕ × List ℕ) → Bool
 have_one_each [] = true
-have_one_each (pair ∷ pairs) = not (list_any (parts_company pair.0 pair.1) pairs) && have_one_each pairs
+have_one_each (pair ∷ pairs) = not (list_any (has_other_second pair.0 pair.1) pairs) && have_one_each pairs
 
 -- the scope has what these mentions declare and assign
 pub record Describes (source : List ℕ) (all : List Mention) (scope : Scope) : Type 0 where
