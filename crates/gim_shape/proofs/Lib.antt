@@ -6,3 +6,4 @@ pub mod ShapeLemmas
 pub mod LimitLemmas
 pub mod ShapeKept
 pub mod LimitsKept
+pub mod DifferentLemmas

@@ -1,24 +1,21 @@
 -- What limits functions without a fault keep.
 use Rattle.std.proofs.Common.{◌≡◌, ◌≤◌, ℕ, suc, ◌+◌, Bool, true, false, List, [], ◌∷◌, ◌++◌, length, Option, Some, None, IsSome, IsTrue, append-nil, refl, sym, ap, subst, ◌∙◌, arith}
-use Rattle.std.specs.Prelude.{not, ◌&&◌, ◌||◌, ◌==◌, is_none, if◌then◌else◌}
-use Rattle.std.specs.List.{AllByRecursion, flat_map, filter_map, list_any}
+use Rattle.std.specs.Prelude.{not, ◌&&◌, ◌||◌, ◌==◌, if◌then◌else◌}
+use Rattle.std.specs.List.{AllByRecursion, flat_map}
 use Rattle.std.specs.Option.{option_map_or}
 use Rattle.std.proofs.lemmas.List.Concat.{flat_map-cons}
 use Rattle.std.proofs.lemmas.List.Elements.{filter_map-append}
-use Rattle.std.proofs.lemmas.List.Folds.{list_any-append}
-use Rattle.std.proofs.lemmas.Bool.{eqb-true, eq-eqb}
+use Rattle.std.proofs.lemmas.Bool.{eq-eqb}
 use Rattle.gim_ast.specs.Identifiers.{is_number_text, is_anonymous}
 use Rattle.gim_ast.specs.Numbers.{number_below}
 use Rattle.gim_ast.specs.WellFormed.{same_text}
 use Rattle.gim_text.specs.declared.fault.GimpleFault.{GimpleFault}
 use Rattle.gim_text.specs.declared.fault.GimpleKind.TheVariants.{TooLarge}
-use Rattle.gim_text.specs.declared.token.Span.{Span}
 use Rattle.gim_text.specs.declared.tree.FunctionText.{FunctionText}
 use Rattle.gim_text.specs.declared.tree.DeclText.{DeclText}
 use Rattle.gim_text.specs.declared.tree.BlockText.{BlockText}
 use Rattle.gim_text.specs.declared.tree.ItemText.{ItemText}
 use Rattle.gim_text.specs.declared.tree.ItemText.TheVariants.{Phi, Stmt}
-use Rattle.gim_text.specs.declared.tree.ArgText.{ArgText}
 use Rattle.gim_text.specs.declared.tree.RightForm.{RightForm}
 use Rattle.gim_text.specs.declared.tree.RightForm.TheVariants.{Copy, Unary, Cast, Binary, Choice}
 use Rattle.gim_text.specs.declared.tree.OperandText.{OperandText}
@@ -31,7 +28,7 @@ use Rattle.gim_shape.specs.declared.places.Place.{Place}
 use Rattle.gim_shape.specs.declared.places.Place.TheVariants.{Name, Block, Jump}
 use Rattle.gim_shape.specs.Blocks.{is_among, named_at}
 use Rattle.gim_shape.specs.Places.{decl_places, operand_places, right_places, arg_places, item_places, end_places, block_places, places_of}
-use Rattle.gim_shape.specs.Limits.{span_at, version_of, digits_at, is_above, blocks_among, version_at, versions_of, different, is_name_too_many, is_too_large, place_faults, function_limit_faults, limits_fault}
+use Rattle.gim_shape.specs.Limits.{span_at, version_of, digits_at, is_above, blocks_among, version_at, versions_of, different, is_too_large, place_faults, function_limit_faults, limits_fault}
 use Rattle.gim_shape.specs.Kept.{NumberFits, KeepsLimits}
 use Rattle.gim_shape.proofs.TableLemmas.{same_text_symm, same_is}
 use Rattle.gim_shape.proofs.JudgingLemmas.{none_first, none_of_all}
@@ -61,8 +58,8 @@ different_middle : (xs ys : List (List ℕ)) (y : List ℕ) → different (xs ++
 different_middle [] ys y = refl
 different_middle (x ∷ xs) ys y =
     let first : different (x ∷ (xs ++ y ∷ ys)) ≡ different (x ∷ y ∷ (xs ++ ys)) =
-        ap (λ b. if b then different (xs ++ y ∷ ys) else suc (different (xs ++ y ∷ ys))) (among_middle xs ys y x)
-        ∙ ap (λ n. if is_among (y ∷ (xs ++ ys)) x then n else suc n) (different_middle xs ys y) in
+    ap (λ b. if b then different (xs ++ y ∷ ys) else suc (different (xs ++ y ∷ ys))) (among_middle xs ys y x)
+    ∙ ap (λ n. if is_among (y ∷ (xs ++ ys)) x then n else suc n) (different_middle xs ys y) in
     first ∙ swap x y (xs ++ ys)
 
 -- ---- a place that is not too large

@@ -15,7 +15,7 @@ pub body_by_tables : {X : Type 0} (source : List ℕ) (close : Span) (blocks : L
     → Judges (first_fault (body_faults source close blocks)) r
 body_by_tables source close blocks entry rest is_there jump_here r parts there here judged =
     let known = subst (λ (f : List ℕ → Bool). Judges (first_fault (block_faults source f jump_here false entry ++ flat_map (block_faults source f jump_here true) rest)) r)
-        (there ∙ ap (λ bs. is_among (numbers_of source bs)) parts) judged in
+    (there ∙ ap (λ bs. is_among (numbers_of source bs)) parts) judged in
     let same = subst (λ (g : List ℕ → List Span). Judges (first_fault (block_faults source (is_among (numbers_of source (entry ∷ rest))) g false entry
-        ++ flat_map (block_faults source (is_among (numbers_of source (entry ∷ rest))) g true) rest)) r) (here ∙ ap (predecessors source) parts) known in
+    ++ flat_map (block_faults source (is_among (numbers_of source (entry ∷ rest))) g true) rest)) r) (here ∙ ap (predecessors source) parts) known in
     subst (λ bs. Judges (first_fault (body_faults source close bs)) r) (sym parts) same

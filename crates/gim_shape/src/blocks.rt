@@ -7,7 +7,7 @@ ghost use Rattle.gim_shape.specs.Blocks.{jumps_to, numbers_of, predecessors};
 ghost use Rattle.gim_shape.specs.Tables.{HasTexts, places_for, AreTables};
 
 use crate::text::named_at;
-use gim_text::{text, BlockText, EndText, Span};
+use gim_text::{BlockText, EndText, Span, text};
 use pm_ops::OutOfMemory;
 use std::alloc::Global;
 use std::collections::{HashMap, HashSet};

@@ -13,10 +13,10 @@ mod phis;
 mod places;
 mod seen;
 mod shape;
+#[cfg(test)]
+mod tests;
 mod text;
-
 
 pub use limits::check_limits;
 pub use places::Place;
 pub use shape::check_shape;
-

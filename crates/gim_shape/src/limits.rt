@@ -7,10 +7,10 @@ ghost use Rattle.gim_shape.specs.declared.places.Place.{Place};
 ghost use Rattle.gim_shape.specs.Seen.{IsSeen, Takes};
 
 use crate::numbers::is_above;
-use crate::places::{places_of, Place};
+use crate::places::{Place, places_of};
 use crate::seen::Seen;
 use crate::text::named_at;
-use gim_text::{name_parts, text, FunctionText, GimpleFault, GimpleKind, Span};
+use gim_text::{FunctionText, GimpleFault, GimpleKind, Span, name_parts, text};
 use pm_ops::OutOfMemory;
 use std::alloc::Global;
 use std::collections::HashSet;
@@ -99,11 +99,7 @@ fn check_places(alloc: Global, source: &[u8], places: &[Place]) -> Result<(), Gi
 }
 
 /// Checks a function.
-fn check_function(
-    alloc: Global,
-    source: &[u8],
-    function: &FunctionText,
-) -> Result<(), GimpleFault>
+fn check_function(alloc: Global, source: &[u8], function: &FunctionText) -> Result<(), GimpleFault>
     ensures { Judges (first_fault (function_limit_faults source.now function.now)) result }
 {
     let places = places_of(alloc, source, function)?;

@@ -10,7 +10,7 @@ ghost use Rattle.gim_shape.specs.Phis.{is_each_once, named_by_args, args_fit, ph
 
 use crate::blocks::texts_at;
 use crate::text::named_at;
-use gim_text::{text, ArgText, GimpleFault, GimpleKind, ItemText, Span};
+use gim_text::{ArgText, GimpleFault, GimpleKind, ItemText, Span, text};
 use pm_ops::OutOfMemory;
 use std::alloc::Global;
 use std::collections::HashSet;

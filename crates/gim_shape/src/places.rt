@@ -6,7 +6,8 @@ ghost use Rattle.gim_shape.specs.Places.{decl_places, operand_places, right_plac
 
 use crate::text::is_anonymous;
 use gim_text::{
-    text, ArgText, BlockText, DeclText, EndText, FunctionText, ItemText, OperandText, RightForm, Span,
+    ArgText, BlockText, DeclText, EndText, FunctionText, ItemText, OperandText, RightForm, Span,
+    text,
 };
 use pm_ops::OutOfMemory;
 use std::alloc::Global;

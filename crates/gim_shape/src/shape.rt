@@ -11,12 +11,16 @@ ghost use Rattle.gim_shape.specs.Shape.{jump_fault, block_faults, function_fault
 use crate::blocks::Tables;
 use crate::phis::check_items;
 use crate::text::named_at;
-use gim_text::{text, BlockText, EndText, FunctionText, GimpleFault, GimpleKind, Span};
+use gim_text::{BlockText, EndText, FunctionText, GimpleFault, GimpleKind, Span, text};
 use std::alloc::Global;
 use std::collections::HashSet;
 
 /// Checks that a jump leads to one of the blocks of these numbers.
-fn check_jump<'a>(source: &'a [u8], numbers: &HashSet<&'a [u8]>, at: Span) -> Result<(), GimpleFault>
+fn check_jump<'a>(
+    source: &'a [u8],
+    numbers: &HashSet<&'a [u8]>,
+    at: Span,
+) -> Result<(), GimpleFault>
     ensures { Judges (jump_fault source.now (has_text numbers.now) at) result }
 {
     let number = named_at(source, at);
@@ -93,11 +97,7 @@ fn check_blocks<'a>(
 }
 
 /// Checks a function.
-fn check_function(
-    alloc: Global,
-    source: &[u8],
-    function: &FunctionText,
-) -> Result<(), GimpleFault>
+fn check_function(alloc: Global, source: &[u8], function: &FunctionText) -> Result<(), GimpleFault>
     ensures { Judges (first_fault (function_faults source.now function.now)) result }
 {
     let blocks = function.blocks.as_slice();

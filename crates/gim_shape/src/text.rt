@@ -4,7 +4,7 @@ ghost use Rattle.std.specs.Prelude.{◌≡◌};
 ghost use Rattle.gim_ast.specs.Identifiers.{is_anonymous};
 ghost use Rattle.gim_shape.specs.Blocks.{named_at};
 
-use gim_text::{is_number_text, text, Span};
+use gim_text::{Span, is_number_text, text};
 
 /// The number of the block that a `__BBn` names.
 pub(crate) fn named_at(source: &[u8], at: Span) -> &[u8]

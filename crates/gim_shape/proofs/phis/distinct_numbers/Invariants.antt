@@ -7,5 +7,5 @@ use Rattle.gim_shape.proofs.phis.distinct_numbers.Given as goal
 abbrev pub invariant-loop-arg : goal.invariant-loop-arg
 invariant-loop-arg l = record {
   distinct : all_distinct same_text (named_by_args l.source (take l.arg-index l.args)) ≡ true;
-  known : HasTexts l.set (named_by_args l.source (take l.arg-index l.args))
+  known : HasTexts l.set (named_by_args l.source (take l.arg-index l.args));
 }

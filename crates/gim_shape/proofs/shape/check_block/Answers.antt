@@ -13,13 +13,13 @@ returns-in_err-check_items c =
     let fault = c.in_err-check_items.field-0.0 in
     passed_on _ fault c.from_residual.result c.from_residual.ensures
     (rw (c.in-Some.is) (front (item_faults source (places_for tables.jumps (number_of source c.args.block.now)) c.args.may c.args.block.now.items)
-      (map (jump_fault source (has_text tables.numbers)) (jumps_of_end c.in-Some.end)) fault
-      (rw (c.predecessors-from.ensures, c.text.ensures, c.as_slice.ensures) at c.in_err-check_items.ensures)))
+    (map (jump_fault source (has_text tables.numbers)) (jumps_of_end c.in-Some.end)) fault
+    (rw (c.predecessors-from.ensures, c.text.ensures, c.as_slice.ensures) at c.in_err-check_items.ensures)))
 
 pub returns : goal.returns
 returns c =
     let source = c.args.source.now in
     let tables = c.args.tables.now in
     rw (c.in-Some.is) (behind (item_faults source (places_for tables.jumps (number_of source c.args.block.now)) c.args.may c.args.block.now.items)
-      (map (jump_fault source (has_text tables.numbers)) (jumps_of_end c.in-Some.end)) c.check_end.result
-      (rw (c.predecessors-from.ensures, c.text.ensures, c.as_slice.ensures) at c.in_ok-check_items.ensures) c.check_end.ensures)
+    (map (jump_fault source (has_text tables.numbers)) (jumps_of_end c.in-Some.end)) c.check_end.result
+    (rw (c.predecessors-from.ensures, c.text.ensures, c.as_slice.ensures) at c.in_ok-check_items.ensures) c.check_end.ensures)

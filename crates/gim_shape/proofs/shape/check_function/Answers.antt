@@ -14,4 +14,4 @@ returns c =
     let parts : blocks ≡ entry ∷ rest = first_and_rest blocks entry (omega arith) c.entry-item.is in
     rw (← c.as_slice-blocks.ensures)
     (body_by_tables source c.args.function.now.close blocks entry rest (has_text tables.numbers) (places_for tables.jumps) c.check_blocks.result parts
-      c.in_ok-tables.ensures.numbers c.in_ok-tables.ensures.jumps c.check_blocks.ensures)
+    c.in_ok-tables.ensures.numbers c.in_ok-tables.ensures.jumps c.check_blocks.ensures)

@@ -10,7 +10,7 @@ returns-in_err-check_block c =
     let fault = c.in_err-check_block.field-0.0 in
     passed_on _ fault c.from_residual.result c.from_residual.ensures
     (front_of (block_faults c.args.source.now (has_text tables.numbers) (places_for tables.jumps) true) c.args.rest.now c.loop-block.block-index c.block-item.result _ fault
-      c.loop-block-test.true c.block-item.is c.loop-block.invariant c.in_err-check_block.ensures)
+    c.loop-block-test.true c.block-item.is c.loop-block.invariant c.in_err-check_block.ensures)
 
 pub loop-block-preserved : goal.loop-block-preserved
 loop-block-preserved c =

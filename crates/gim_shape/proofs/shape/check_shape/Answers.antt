@@ -7,7 +7,7 @@ returns-in_err-check_function c =
     let fault = c.in_err-check_function.field-0.0 in
     passed_on _ fault c.from_residual.result c.from_residual.ensures
     (front_of (function_faults c.args.source.now) c.args.functions.now c.loop-function.function-index c.function-item.result _ fault
-      c.loop-function-test.true c.function-item.is c.loop-function.invariant c.in_err-check_function.ensures)
+    c.loop-function-test.true c.function-item.is c.loop-function.invariant c.in_err-check_function.ensures)
 
 pub loop-function-preserved : goal.loop-function-preserved
 loop-function-preserved c =
