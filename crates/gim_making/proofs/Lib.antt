@@ -7,3 +7,12 @@ pub mod MentionLemmas
 pub mod MadeLemmas
 pub mod PartLemmas
 pub mod PlaceLemmas
+pub mod NameRowLemmas
+pub mod DeclarationsHold
+pub mod UseLemmas
+pub mod NamesHold
+pub mod OperandsHold
+pub mod SmallLemmas
+pub mod BlocksHold
+pub mod BoundsHold
+pub mod Sound

@@ -21,8 +21,9 @@ use Rattle.gim_text.specs.declared.tree.OperandText.TheVariants.{Name, Default, 
 use Rattle.gim_text.specs.declared.tree.RightForm.{RightForm}
 use Rattle.gim_text.specs.declared.tree.RightForm.TheVariants.{Copy, Unary, Cast, Binary, Choice}
 use Rattle.gim_names.specs.declared.mention.Mention.{Mention}
-use Rattle.gim_names.specs.declared.mention.Mention.TheVariants.{Param, Local, Block, Assigned, Used, UsedDefault, Constant}
+use Rattle.gim_names.specs.declared.mention.Mention.TheVariants.{Block, Assigned}
 use Rattle.gim_names.specs.Mentions.{mentions_of, mentions_of_block, mentions_of_item, mentions_of_end, mentions_of_right, mention_of_operand, mention_of_arg, mention_of_param, mention_of_local}
+use Rattle.gim_shape.specs.Kept.{HasNoPhi, HasPhisFirst}
 use Rattle.gim_making.specs.Declarations.{Declarations, declarations_of, version_of_name}
 use Rattle.gim_making.specs.Standing.{made}
 use Rattle.gim_making.specs.Trees.{operand_of, rhs_of, arg_of, phi_of, stmt_of, end_of, block_of}
@@ -31,25 +32,15 @@ use Rattle.gim_making.proofs.Membership.{Has, flat_of_map, flat_of_map_at, flat_
 
 -- ---- phis before statements
 
-abbrev pub NoPhi : List ItemText → Type 0
-NoPhi [] = Unit {0}
-NoPhi (items.Phi name args ∷ later) = ⊥
-NoPhi (items.Stmt name right ∷ later) = NoPhi later
-
-abbrev pub PhisFirst : List ItemText → Type 0
-PhisFirst [] = Unit {0}
-PhisFirst (items.Phi name args ∷ later) = PhisFirst later
-PhisFirst (items.Stmt name right ∷ later) = NoPhi later
-
 abbrev pub ArePhisFirst : FunctionText → Type 0
-ArePhisFirst tree = (block : BlockText) → Has tree.blocks block → PhisFirst block.items
+ArePhisFirst tree = (block : BlockText) → Has tree.blocks block → HasPhisFirst block.items
 
-no_phi_first : (list : List ItemText) → NoPhi list → PhisFirst list
+no_phi_first : (list : List ItemText) → HasNoPhi list → HasPhisFirst list
 no_phi_first [] h = tt
 no_phi_first (items.Phi name args ∷ later) h = absurd h
 no_phi_first (items.Stmt name right ∷ later) h = h
 
-no_phis : (known : Declarations) (list : List ItemText) → NoPhi list → flat_map (phi_of known) list ≡ []
+pub no_phis : (known : Declarations) (list : List ItemText) → HasNoPhi list → flat_map (phi_of known) list ≡ []
 no_phis known [] h = refl
 no_phis known (items.Phi name args ∷ later) h = absurd h
 no_phis known (items.Stmt name right ∷ later) h = no_phis known later h
@@ -58,7 +49,7 @@ no_phis known (items.Stmt name right ∷ later) h = no_phis known later h
 abbrev both : {A : Type 0} → (Phi → List A) → (Stmt → List A) → Declarations → ItemText → List A
 both Q R known item = flat_map Q (phi_of known item) ++ flat_map R (stmt_of known item)
 
-in_order : {A : Type 0} (Q : Phi → List A) (R : Stmt → List A) (known : Declarations) (list : List ItemText) → PhisFirst list
+in_order : {A : Type 0} (Q : Phi → List A) (R : Stmt → List A) (known : Declarations) (list : List ItemText) → HasPhisFirst list
     → flat_map Q (flat_map (phi_of known) list) ++ flat_map R (flat_map (stmt_of known) list) ≡ flat_map (both Q R known) list
 in_order Q R known [] h = refl
 in_order Q R known (items.Phi name args ∷ later) h =
@@ -101,7 +92,7 @@ end_operands known (Some (Goto to)) = refl
 end_operands known (Some (If code a b yes_to no_to)) = refl
 end_operands known (Some (Return a)) = refl
 
-block_operands : (known : Declarations) (block : BlockText) → PhisFirst block.items → operands_of_block (block_of known block) ≡ map (operand_of known) (texts_of_block block)
+block_operands : (known : Declarations) (block : BlockText) → HasPhisFirst block.items → operands_of_block (block_of known block) ≡ map (operand_of known) (texts_of_block block)
 block_operands known block first =
     let O = operand_of known in
     let end = operands_of_end (end_of known block.end) in
@@ -159,7 +150,7 @@ item_assigns : (known : Declarations) (item : ItemText) → both phi_names stmt_
 item_assigns known (items.Phi name args) = ap (λ l. version_of_name known.source name ∷ l) (sym (none_in_args known.source args))
 item_assigns known (items.Stmt name right) = ap (λ l. version_of_name known.source name ∷ l) (sym (none_in_right known.source right.form))
 
-block_assigns : (known : Declarations) (block : BlockText) → PhisFirst block.items → assigned_in (block_of known block) ≡ flat_map (assigned_number known.source) (mentions_of_block known.source block)
+block_assigns : (known : Declarations) (block : BlockText) → HasPhisFirst block.items → assigned_in (block_of known block) ≡ flat_map (assigned_number known.source) (mentions_of_block known.source block)
 block_assigns known block first =
     let A = assigned_number known.source in
     let phis = flat_map (phi_of known) block.items in

@@ -1,10 +1,9 @@
 -- What is known of each place of a name, where the rules on names are kept and versions are below the limit.
-use Rattle.std.proofs.Common.{◌≡◌, ◌⊎◌, ℕ, Bool, true, false, cond, Option, Some, None, option_map, List, [], ◌∷◌, ◌++◌, map, refl, sym, ap, subst, ◌∙◌, inl, inr}
-use Rattle.std.specs.Prelude.{◌&&◌, ◌||◌, not}
-use Rattle.std.specs.List.{flat_map, list_any, list_all}
-use Rattle.std.specs.Option.{unwrap_or}
+use Rattle.std.proofs.Common.{◌≡◌, ◌⊎◌, ℕ, Bool, true, false, cond, Option, Some, None, List, [], ◌∷◌, ◌++◌, refl, sym, ap, subst, ◌∙◌, inl, inr}
+use Rattle.std.specs.Prelude.{◌||◌, not}
+use Rattle.std.specs.List.{list_any}
 use Rattle.std.proofs.lemmas.Bool.{and_parts, and_from, false≢true}
-use Rattle.pm_wide.specs.Types.{Ty, bool_type}
+use Rattle.pm_wide.specs.Types.{Ty}
 use Rattle.gim_ast.specs.declared.function.NameRow.{NameRow}
 use Rattle.gim_ast.specs.Identifiers.{is_anonymous}
 use Rattle.gim_ast.specs.WellFormed.{same_text}
@@ -14,17 +13,17 @@ use Rattle.gim_text.specs.Texts.{text_of, name_parts}
 use Rattle.gim_names.specs.declared.mention.Mention.{Mention}
 use Rattle.gim_names.specs.declared.mention.Mention.TheVariants.{Param, Local, Block, Assigned, Used, UsedDefault, Constant}
 use Rattle.gim_names.specs.Mentions.{mentions_of}
-use Rattle.gim_names.specs.Parts.{with_some, all_said, version_in, turned, anonymous_parts, local_text, plain_version, default_version, version_base}
+use Rattle.gim_names.specs.Parts.{with_some, all_said, version_in, turned, anonymous_parts, local_text, plain_version, default_version, version_base, base_default}
 use Rattle.gim_names.specs.Rules.{parts_company}
 use Rattle.gim_names.specs.Tables.{have_one_each}
 use Rattle.gim_names.specs.Kept.{KeepsNames, locals_of, params_of, assigned_of, has_base, has_param, is_declared}
 use Rattle.gim_names.proofs.Saying.{declares}
 use Rattle.gim_making.specs.declared.places.NamePlace.{NamePlace}
-use Rattle.gim_making.specs.Declarations.{Declarations, declarations_of, type_by_base, type_by_parts, type_of_name, number_of}
+use Rattle.gim_making.specs.Declarations.{declarations_of, type_by_parts, type_of_name, number_of}
 use Rattle.gim_making.specs.Names.{plain, default_at, names_in, rows_by_parts, rows_of_place, named_rows}
 use Rattle.gim_making.proofs.Membership.{Has, has_flat, from_flat, all_has, any_from_has}
 use Rattle.gim_making.proofs.MentionLemmas.{place_of_mention, names_are_mentioned}
-use Rattle.gim_making.proofs.PartLemmas.{text_itself, same_text_is, parts_are, anonymous_has_parts, IsSmall, same_number, typed}
+use Rattle.gim_making.proofs.PartLemmas.{text_itself, same_text_is, parts_are, anonymous_has_parts, IsSmall, same_number}
 
 -- ---- what a list says
 
@@ -79,6 +78,7 @@ pub record PlaceFacts (source : List ℕ) (tree : FunctionText) (place : NamePla
   pub param : place.initial ≡ true → has_param (params_of source tree) (Some (base, digits)) ≡ true
   pub pair : Has (all_said (version_base source) (mentions_of source tree)) (digits, base)
   pub default : place.initial ≡ true → Has (all_said (default_version source) (mentions_of source tree)) digits
+  pub default_pair : place.initial ≡ true → Has (all_said (base_default source) (mentions_of source tree)) (base, digits)
   pub written : place.initial ≡ false → (base ≡ []) ⊎ Has (all_said (plain_version source) (mentions_of source tree)) digits
 
 has_some : (locals params : List (List ℕ)) (text : List ℕ) (o : Option (List ℕ × List ℕ)) → has_base locals params text o ≡ true → (p : List ℕ × List ℕ) × (o ≡ Some p)
@@ -101,7 +101,7 @@ pub param_not_bare : (params : List (List ℕ)) (base digits : List ℕ) → has
 param_not_bare params base digits h bare = false≢true (ap (λ b. has_param params (Some (b, digits))) (sym bare) ∙ h)
 
 -- the mention of a place is one of the places of names
-in_names : (source : List ℕ) (tree : FunctionText) (m : Mention) (place : NamePlace) → Has (mentions_of source tree) m → Has (place_of_mention source m) place → Has (names_in source tree) place
+pub in_names : (source : List ℕ) (tree : FunctionText) (m : Mention) (place : NamePlace) → Has (mentions_of source tree) m → Has (place_of_mention source m) place → Has (names_in source tree) place
 in_names source tree m place there here = subst (λ l. Has l place) (names_are_mentioned source tree) (has_flat (place_of_mention source) (mentions_of source tree) m place there here)
 
 local_facts : (source : List ℕ) (tree : FunctionText) → AreSmall source tree → (at : Span) → Has (mentions_of source tree) (Local at) → is_anonymous (text_of source at) ≡ true → Has (names_in source tree) (plain at) → PlaceFacts source tree (plain at)
@@ -119,6 +119,7 @@ local_facts source tree small at there anonymous name =
       param = λ e. absurd (false≢true e);
       pair = has_said (version_base source) ms (Local at) (found.0, []) there (ap (λ o. turned (anonymous_parts o)) found.1);
       default = λ e. absurd (false≢true e);
+      default_pair = λ e. absurd (false≢true e);
       written = λ e. inl refl;
     }
 
@@ -140,6 +141,7 @@ plain_facts source tree small m at there pairs versions declared name =
       param = λ e. absurd (false≢true e);
       pair = has_said (version_base source) ms m (p.1, p.0) there (pairs ∙ ap turned found.1);
       default = λ e. absurd (false≢true e);
+      default_pair = λ e. absurd (false≢true e);
       written = λ e. inr (has_said (plain_version source) ms m p.1 there (versions ∙ ap version_in found.1));
     }
 
@@ -160,6 +162,7 @@ default_facts source tree small at there declared name =
       param = λ e. param;
       pair = has_said (version_base source) ms (UsedDefault at) (p.1, p.0) there (ap turned found.1);
       default = λ e. has_said (default_version source) ms (UsedDefault at) p.1 there (ap version_in found.1);
+      default_pair = λ e. has_said (base_default source) ms (UsedDefault at) p there found.1;
       written = λ e. absurd (false≢true (sym e));
     }
 

@@ -4,3 +4,4 @@ pub mod Names
 pub mod Types
 pub mod Standing
 pub mod Written
+pub mod Judged

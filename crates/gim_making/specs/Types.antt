@@ -1,7 +1,6 @@
 -- The rules on types, and the first place of a file at which one is broken.
 use Rattle.std.specs.Prelude.{ℕ, Bool, ◌&&◌, Option, Some, None, List, [], ◌∷◌, ◌++◌, map, if◌then◌else◌}
 use Rattle.std.specs.List.{flat_map}
-use Rattle.pm_ops.specs.declared.code.Code.{Code}
 use Rattle.pm_ops.specs.Codes.{is_comparison_code}
 use Rattle.pm_wide.specs.Types.{Ty, same_type}
 use Rattle.gim_ast.specs.WellFormed.{type_of, rhs_fits}

@@ -1,5 +1,5 @@
 -- What the tokens of a text give to each tree that is read from them, before any rule is judged.
-use Rattle.std.specs.Prelude.{◌≡◌, ℕ, ◌^◌, ◌<◌, Bool, true, IsTrue, ◌&&◌, Option, Some, None, List, [], ◌∷◌, ◌++◌, map, length}
+use Rattle.std.specs.Prelude.{◌≡◌, ℕ, ◌^◌, ◌<◌, Bool, true, ◌&&◌, Option, Some, None, List, [], ◌∷◌, ◌++◌, map, length}
 use Rattle.std.specs.List.{flat_map, list_all}
 use Rattle.gim_ast.specs.Identifiers.{is_identifier, is_number_text}
 use Rattle.gim_ast.specs.WellFormed.{is_type_of}
