@@ -3,14 +3,14 @@
 //! docs/GIMPLE.md has the text that is read, and its faults.
 #![tactic(auto)]
 
-ghost use Rattle.std.specs.Prelude.{◌≡◌, ◌≤◌, List, All, IfOk, IfErr, OnOk, MatchResult, None, length};
-ghost use Rattle.std.specs.List.{AllZip};
+ghost use Rattle.std.specs.Prelude.{◌≡◌, ◌≤◌, List, IfOk, IfErr, OnOk, MatchResult, None, length};
+ghost use Rattle.std.specs.List.{AllByRecursion, AllZip};
 ghost use Rattle.gim_ast.specs.declared.function.Function.{Function};
 ghost use Rattle.gim_ast.specs.WellFormed.{IsWellFormed};
 ghost use Rattle.gim_text.specs.declared.fault.GimpleKind.TheVariants.{Memory};
 ghost use Rattle.gim_text.specs.Faults.{Judges};
 ghost use Rattle.gim_making.specs.Standing.{StandsFor};
-ghost use Rattle.gim_reader.specs.Files.{IsFile, IsRefusal, file_limit, rules_fault, size_fault};
+ghost use Rattle.gim_reader.specs.Files.{IsFile, IsRefusal, FromTokens, IsTokensRefusal, rules_fault, size_fault};
 
 use gim_ast::Function;
 use gim_lexer::lex;
@@ -18,7 +18,7 @@ use gim_making::{check_types, make};
 use gim_names::check_names;
 use gim_shape::{check_limits, check_shape};
 use gim_syntax::read_syntax;
-use gim_text::FunctionText;
+use gim_text::{FunctionText, Token};
 pub use gim_text::{GimpleFault, GimpleKind};
 use std::alloc::Global;
 
@@ -34,13 +34,26 @@ pub fn read(alloc: Global, source: &[u8]) -> Result<Vec<Function>, GimpleFault>
     // A refusal is for the first fault, or for want of memory.
     ensures refused { IfErr result (IsRefusal source.now) }
     // Each function is well formed.
-    ensures well_formed { IfOk result (λ fs. All IsWellFormed fs.items) }
+    ensures well_formed { IfOk result (λ fs. AllByRecursion IsWellFormed fs.items) }
 {
     if source.len() > FILE_LIMIT {
         return Err(too_large());
     }
     let tokens = lex(alloc, source)?;
-    let trees = read_syntax(alloc, source.len(), tokens.as_slice())?;
+    from_tokens(alloc, source, tokens.as_slice())
+}
+
+/// The functions that the tokens of a source spell.
+fn from_tokens(
+    alloc: Global,
+    source: &[u8],
+    tokens: &[Token],
+) -> Result<Vec<Function>, GimpleFault>
+    ensures found { IfOk result (λ fs. FromTokens source.now tokens.now fs.items) }
+    ensures only { (fs : List Function) → FromTokens source.now tokens.now fs → MatchResult result (λ gs. gs.items ≡ fs) (λ fault. fault.kind ≡ Memory) }
+    ensures refused { IfErr result (IsTokensRefusal source.now tokens.now) }
+{
+    let trees = read_syntax(alloc, source.len(), tokens)?;
     functions(alloc, source, trees.as_slice())
 }
 
