@@ -1,8 +1,7 @@
 -- Blocks are read exactly.
-use Rattle.std.proofs.Common.{◌≡◌, List, [], ◌∷◌, ◌++◌, length, Option, Some, None, Ok, refl, sym, ap, subst, ◌∙◌, inl, inr}
-use Rattle.std.proofs.lemmas.List.{append-nil}
-use Rattle.grammar.specs.Spelling.{Spelling, Begins, Nothing, Meant, Then, Mapped, Steps, Item, Many}
-use Rattle.grammar.specs.Reading.{Answer, ◌>>=◌, steps_at}
+use Rattle.std.proofs.Common.{◌≡◌, List, [], ◌∷◌, ◌++◌, Option, Some, None, Ok, refl, sym, subst, inl, inr}
+use Rattle.grammar.specs.Spelling.{Spelling, Begins, Meant, Then, Mapped, Steps, Item, Many}
+use Rattle.grammar.specs.Reading.{Answer, ◌>>=◌}
 use Rattle.grammar.specs.Exact.{IsApart, IsExact}
 use Rattle.grammar.proofs.Parts.{apart_within}
 use Rattle.grammar.proofs.Sequence.{Never}

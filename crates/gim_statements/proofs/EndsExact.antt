@@ -1,8 +1,8 @@
 -- What ends a block is read exactly.
-use Rattle.std.proofs.Common.{◌≡◌, List, [], ◌∷◌, ◌++◌, Option, Some, None, Ok, refl, sym, ap, subst, ◌∙◌, inl, inr}
+use Rattle.std.proofs.Common.{◌≡◌, List, [], ◌∷◌, Option, Some, None, Ok, refl, sym, subst, inl, inr}
 use Rattle.std.proofs.lemmas.List.{append-nil}
 use Rattle.grammar.specs.Spelling.{Spelling, Begins, Nothing, Meant, Then, Mapped}
-use Rattle.grammar.specs.Reading.{Answer, ◌>>=◌, meant_at}
+use Rattle.grammar.specs.Reading.{Answer, ◌>>=◌}
 use Rattle.grammar.specs.Exact.{IsExact}
 use Rattle.grammar.proofs.Parts.{from_here, skipped}
 use Rattle.grammar.proofs.Sequence.{Never}
@@ -26,7 +26,7 @@ use Rattle.gim_marks.proofs.Starts.{Begun, meant_begun, front_begun, before_toke
 use Rattle.gim_marks.proofs.MarksExact.{some_mark, some_keyword, some_block_word, mark_reads}
 use Rattle.gim_marks.proofs.BalancedExact.{closing_reads}
 use Rattle.gim_statements.specs.Words.{comparison_code}
-use Rattle.gim_statements.specs.Grammar.{SpellsOperand, SpellsJumpEnd, SpellsJump, SpellsEnd, SpellsEndIfAny, GoesOnBlock}
+use Rattle.gim_statements.specs.Grammar.{SpellsOperand, SpellsJump, SpellsEnd, SpellsEndIfAny, GoesOnBlock}
 use Rattle.gim_statements.specs.OperandReaders.{operand_at}
 use Rattle.gim_statements.specs.BlockReaders.{jump_end_at, jump_at, if_at, return_at, end_at}
 use Rattle.gim_statements.proofs.OperandsExact.{IsOpen, open_is, operand_reads}

@@ -1,5 +1,5 @@
 -- Phis and statements are read exactly.
-use Rattle.std.proofs.Common.{◌≡◌, List, [], ◌∷◌, ◌++◌, length, Option, Some, None, Ok, refl, sym, ap, subst, ◌∙◌, inl, inr}
+use Rattle.std.proofs.Common.{◌≡◌, List, [], ◌∷◌, ◌++◌, length, Some, None, Ok, refl, sym, subst, inl, inr}
 use Rattle.std.proofs.lemmas.List.{append-nil}
 use Rattle.grammar.specs.Spelling.{Spelling, Begins, Nothing, Meant, Then, Mapped, Steps, Item}
 use Rattle.grammar.specs.Reading.{Answer, ◌>>=◌, steps_at}
@@ -14,17 +14,14 @@ use Rattle.gim_text.specs.declared.token.Token.{Token}
 use Rattle.gim_text.specs.declared.token.Token.TheVariants as tokens
 use Rattle.gim_text.specs.declared.token.Keyword.TheVariants as keywords
 use Rattle.gim_text.specs.declared.token.Mark.TheVariants as marks
-use Rattle.gim_text.specs.declared.tree.OperandText.{OperandText}
-use Rattle.gim_text.specs.declared.tree.RightText.{RightText}
 use Rattle.gim_text.specs.declared.tree.ArgText.{ArgText}
 use Rattle.gim_text.specs.declared.tree.ItemText.{ItemText}
 use Rattle.gim_text.specs.declared.tree.ItemText.TheVariants as items
-use Rattle.gim_marks.specs.Readers.{mark_at, keyword_at, name_at}
+use Rattle.gim_marks.specs.Readers.{mark_at, keyword_at}
 use Rattle.gim_marks.proofs.Parts.{Reads, nothing, seen_by, after_token, in_sequence, in_words}
 use Rattle.gim_marks.proofs.Starts.{Begun, meant_begun, front_begun, before_token, Either, left_of, right_of}
 use Rattle.gim_marks.proofs.Loops as loops
 use Rattle.gim_marks.proofs.MarksExact.{some_mark, some_keyword, some_name, some_block_word}
-use Rattle.gim_statements.specs.Words.{infix_code}
 use Rattle.gim_statements.specs.Grammar.{SpellsOperand, SpellsRight, SpellsArg, SpellsFurtherArg, SpellsArgs, SpellsItem}
 use Rattle.gim_statements.specs.OperandReaders.{operand_at}
 use Rattle.gim_statements.specs.RightReaders.{right_at}

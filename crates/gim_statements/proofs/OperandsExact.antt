@@ -1,11 +1,10 @@
 -- Operands are read exactly.
-use Rattle.std.proofs.Common.{◌≡◌, Bool, true, false, List, [], ◌∷◌, ◌++◌, Option, Some, None, Ok, refl, sym, ap, subst, ◌∙◌, ◌⊎◌, inl, inr}
+use Rattle.std.proofs.Common.{◌≡◌, Bool, true, false, List, [], ◌∷◌, ◌++◌, Option, Some, None, Ok, refl, sym, ap, subst, ◌∙◌, inl, inr}
 use Rattle.std.proofs.lemmas.List.{append-nil}
 use Rattle.grammar.specs.Spelling.{Spelling, Begins, Nothing, Meant, Then, Mapped}
 use Rattle.grammar.specs.Reading.{Answer, ◌>>=◌, meant_at}
 use Rattle.grammar.specs.Exact.{IsExact}
 use Rattle.grammar.proofs.Parts.{starting_so, refused, mapped, SameStart}
-use Rattle.grammar.proofs.Sequence.{Never}
 use Rattle.pm_wide.specs.Types.{Ty}
 use Rattle.gim_text.specs.Meanings.{mark, keyword, identifier, span_of}
 use Rattle.gim_text.specs.declared.fault.Part.{Part}
@@ -26,13 +25,13 @@ use Rattle.gim_types.specs.Grammar.{SpellsType, GoesOnType}
 use Rattle.gim_types.specs.Readers.{type_at}
 use Rattle.gim_types.proofs.TypesExact.{some_type, type_exact}
 use Rattle.gim_marks.specs.Readers.{plain_number, mark_at, keyword_at, name_at}
-use Rattle.gim_marks.proofs.Parts.{Reads, nothing, one_token, seen_by, after_token, in_words}
+use Rattle.gim_marks.proofs.Parts.{Reads, nothing, one_token, seen_by, after_token}
 use Rattle.gim_marks.proofs.Starts.{Begun, meant_begun, front_begun, same_begun, widen_begun, before_token, Optional, taken, left_out}
 use Rattle.gim_marks.proofs.MarksExact.{some_mark, some_keyword, some_name, some_plain_number}
 use Rattle.gim_statements.specs.declared.operand.Constant.{Constant}
 use Rattle.gim_statements.specs.Words.{literal_number}
-use Rattle.gim_statements.specs.Grammar.{AMark, BeginsAt, Signed, SpellsConstant, SpellsOperand}
-use Rattle.gim_statements.specs.OperandReaders.{literal, signed_at, bare, written, signed_number_at, written_number_at, written_at, constant_at, literal_at, named_at, operand_at}
+use Rattle.gim_statements.specs.Grammar.{BeginsAt, Signed, SpellsConstant, SpellsOperand}
+use Rattle.gim_statements.specs.OperandReaders.{literal, signed_at, bare, written, signed_number_at, written_at, constant_at, literal_at, named_at, operand_at}
 
 -- which tokens begin what
 

@@ -4,7 +4,7 @@ use Rattle.std.proofs.lemmas.List.{append-nil}
 use Rattle.grammar.specs.Spelling.{Spelling, Begins, Nothing, Meant, Then, Mapped}
 use Rattle.grammar.specs.Reading.{Answer, ◌>>=◌, meant_at, meant_as}
 use Rattle.grammar.specs.Exact.{IsApart, IsExact}
-use Rattle.grammar.proofs.Parts.{starting_so, from_here, from_token, refused, mapped, apart_within, SameStart, same_head, same_tail}
+use Rattle.grammar.proofs.Parts.{starting_so, from_here, from_token, refused, apart_within, SameStart, same_head, same_tail}
 use Rattle.pm_wide.specs.Types.{Ty}
 use Rattle.pm_ops.specs.declared.code.Code.{Code}
 use Rattle.pm_ops.specs.declared.code.Code.TheVariants as codes
@@ -29,10 +29,10 @@ use Rattle.gim_types.specs.Grammar.{SpellsType, GoesOnType}
 use Rattle.gim_types.specs.Readers.{type_at}
 use Rattle.gim_marks.specs.Readers.{mark_at}
 use Rattle.gim_marks.proofs.Parts.{Reads, nothing, seen_by, after_token, in_sequence, widened}
-use Rattle.gim_marks.proofs.Starts.{Begun, meant_begun, front_begun, same_begun, widen_begun, apart_begun, first_meant, before_token, Optional, taken, left_out, after_first}
+use Rattle.gim_marks.proofs.Starts.{Begun, meant_begun, front_begun, same_begun, widen_begun, apart_begun, first_meant, before_token, Optional, left_out, after_first}
 use Rattle.gim_marks.proofs.MarksExact.{some_mark, some_name}
 use Rattle.gim_statements.specs.Words.{prefix_code, infix_code, call_code, literal_number}
-use Rattle.gim_statements.specs.Grammar.{BeginsAt, Signed, SpellsConstant, SpellsOperand, BeginsWithNoNumber, MayStandUnder, SpellsForm, SpellsRight}
+use Rattle.gim_statements.specs.Grammar.{Signed, SpellsConstant, SpellsOperand, BeginsWithNoNumber, MayStandUnder, SpellsForm, SpellsRight}
 use Rattle.gim_statements.specs.OperandReaders.{operand_at}
 use Rattle.gim_statements.specs.RightReaders.{prefixed_at, cast_at, call_at, choice_at, operated, continued_at, infix_at, form_at, right_at}
 use Rattle.gim_statements.proofs.OperandsExact.{IsOpen, IsMinus, IsName, IsNumber, StartsOperand, open_is, number_is, minus_is, name_begun, literal_word_begun, some_operand, operand_begun, operand_reads, type_reads, close_not_in_type, placed_exact}

@@ -240,16 +240,14 @@ fn forms(rt: HostRuntime) -> Result<(), Fail> {
 /// Whether there is one phi, of two arguments, whose second is a constant.
 fn is_phi(items: &[ItemText]) -> bool {
     match items {
-        [ItemText::Phi(Span { from: 10, .. }, args)] => matches!(
-            args.as_slice(),
-            [
-                _,
-                ArgText {
-                    from: Span { from: 18, .. },
-                    operand: OperandText::Literal(_),
-                },
-            ]
-        ),
+        [ItemText::Phi(name, args)] => name.from == 10 && ends_in_a_constant(args.as_slice()),
+        _ => false,
+    }
+}
+
+fn ends_in_a_constant(args: &[ArgText]) -> bool {
+    match args {
+        [_, second] => second.from.from == 18 && matches!(second.operand, OperandText::Literal(_)),
         _ => false,
     }
 }
