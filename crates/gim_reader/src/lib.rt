@@ -44,11 +44,7 @@ pub fn read(alloc: Global, source: &[u8]) -> Result<Vec<Function>, GimpleFault>
 }
 
 /// The functions that the tokens of a source spell.
-fn from_tokens(
-    alloc: Global,
-    source: &[u8],
-    tokens: &[Token],
-) -> Result<Vec<Function>, GimpleFault>
+fn from_tokens(alloc: Global, source: &[u8], tokens: &[Token]) -> Result<Vec<Function>, GimpleFault>
     ensures found { IfOk result (λ fs. FromTokens source.now tokens.now fs.items) }
     ensures only { (fs : List Function) → FromTokens source.now tokens.now fs → MatchResult result (λ gs. gs.items ≡ fs) (λ fault. fault.kind ≡ Memory) }
     ensures refused { IfErr result (IsTokensRefusal source.now tokens.now) }
@@ -92,3 +88,6 @@ fn judge(alloc: Global, source: &[u8], trees: &[FunctionText]) -> Result<(), Gim
     check_types(alloc, source, trees)?;
     check_limits(alloc, source, trees)
 }
+
+#[cfg(test)]
+mod tests;
