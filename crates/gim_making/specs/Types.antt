@@ -17,7 +17,7 @@ use Rattle.gim_text.specs.declared.tree.ItemText.TheVariants.{Phi, Stmt}
 use Rattle.gim_text.specs.declared.tree.OperandText.{OperandText}
 use Rattle.gim_text.specs.declared.tree.OperandText.TheVariants.{Name, Default, Literal}
 use Rattle.gim_text.specs.declared.tree.RightForm.{RightForm}
-use Rattle.gim_text.specs.declared.tree.RightForm.TheVariants.{Copy, Unary, Cast, Binary, Choice}
+use Rattle.gim_text.specs.declared.tree.RightForm.TheVariants.{Cast}
 use Rattle.gim_text.specs.Faults.{fault_at, first_fault}
 use Rattle.gim_making.specs.Declarations.{Declarations, declarations_of, type_of_name}
 use Rattle.gim_making.specs.Trees.{operand_of, rhs_of}
@@ -27,11 +27,8 @@ type_of_operand known a = type_of (operand_of known a)
 
 -- a right side that is assigned to a name of this type: a cast is to that type, and its operation is well typed
 abbrev pub form_fits : Declarations → Ty → RightForm → Bool
-form_fits known t (Copy a) = rhs_fits t (rhs_of known (Copy a))
-form_fits known t (Unary code a) = rhs_fits t (rhs_of known (Unary code a))
 form_fits known t (Cast to a) = same_type to t && rhs_fits t (rhs_of known (Cast to a))
-form_fits known t (Binary code a b) = rhs_fits t (rhs_of known (Binary code a b))
-form_fits known t (Choice a b c) = rhs_fits t (rhs_of known (Choice a b c))
+form_fits known t form = rhs_fits t (rhs_of known form)
 
 -- the first token of an operand
 abbrev pub start_of : OperandText → Span
