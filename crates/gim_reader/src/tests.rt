@@ -8,7 +8,8 @@ use std::test::Fail;
 /// What stands before the blocks of a function of two parameters and three locals.
 const HEAD: &str = "int __GIMPLE (ssa)\nf (int x, long y)\n{\n  int a;\n  int _4;\n  long _5;\n";
 
-/// A file, or a fault with the token where it stands.
+/// What comes of a file: so many functions, or a fault with the token where it stands.
+#[derive(Drop)]
 enum Wanted {
     Functions(usize),
     Fault(GimpleKind, &'static str),
