@@ -18,7 +18,7 @@ use Rattle.gim_ast.specs.WellFormed.{IsWellFormed, same_text, all_distinct, decl
 use Rattle.gim_ast.specs.Runs.{zero_of, argument_of, start_word, start_env, run_from, entry_of, start_of, run_of}
 use Rattle.gim_run.specs.Slots.{env_of, types_of_rows, types_of_words, AreSlots}
 use Rattle.gim_run.specs.Blocks.{has_room}
-use Rattle.gim_run.specs.Machines.{AreArguments}
+use Rattle.gim_run.specs.Arguments.{AreArguments}
 use Rattle.gim_run.proofs.SlotLemmas.{and_first, and_second}
 
 -- ---- words

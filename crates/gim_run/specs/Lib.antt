@@ -1,5 +1,7 @@
+pub mod Arguments
 pub mod Blocks
 pub mod Machines
+pub mod Outcomes
 pub mod Places
 pub mod Samples
 pub mod Slots

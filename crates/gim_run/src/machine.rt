@@ -4,8 +4,8 @@ ghost use Rattle.gim_ast.specs.declared.function.NameRow.{NameRow};
 ghost use Rattle.gim_ast.specs.Runs.{run_of, zero_of};
 ghost use Rattle.gim_ast.specs.WellFormed.{IsWellFormed};
 ghost use Rattle.gim_run.specs.Blocks.{has_room};
-ghost use Rattle.gim_run.specs.Machines.{AreArguments};
-ghost use Rattle.gim_run.specs.Ways.{outcome};
+ghost use Rattle.gim_run.specs.Arguments.{AreArguments};
+ghost use Rattle.gim_run.specs.Outcomes.{outcome};
 
 use crate::indexed::Indexed;
 use crate::runs::{Outcome, from_entry};

@@ -3,6 +3,7 @@ ghost use Rattle.std.specs.List.{list_all};
 ghost use Rattle.gim_ast.specs.Runs.{entry_of, run_from, step_at, step_in};
 ghost use Rattle.gim_ast.specs.WellFormed.{IsWellFormed};
 ghost use Rattle.gim_run.specs.Blocks.{block_holds, has_room};
+ghost use Rattle.gim_run.specs.Outcomes.{outcome};
 ghost use Rattle.gim_run.specs.Slots.{env_of, AreSlots};
 ghost use Rattle.gim_run.specs.Ways as ways;
 
@@ -96,7 +97,7 @@ pub(crate) fn go(
     requires slots { AreSlots function.now slots.old }
     requires hold { IsTrue (list_all (block_holds function.now) function.now.blocks) }
     requires room { IsTrue (list_all (has_room (length scratch.old)) function.now.blocks) }
-    ensures outcome { run_from function.now fuel (record { from = 0; to = entry; env = env_of function.now.names slots.old }) ≡ ways.outcome result }
+    ensures outcome { run_from function.now fuel (record { from = 0; to = entry; env = env_of function.now.names slots.old }) ≡ outcome result }
     ensures slots { AreSlots function.now slots.new }
     ensures room { length scratch.new ≡ length scratch.old }
 {
@@ -128,7 +129,7 @@ pub(crate) fn from_entry(
     requires well_formed { IsWellFormed function.now }
     requires slots { AreSlots function.now slots.old }
     requires room { IsTrue (list_all (has_room (length scratch.old)) function.now.blocks) }
-    ensures outcome { run_from function.now fuel (record { from = 0; to = entry_of function.now.blocks; env = env_of function.now.names slots.old }) ≡ ways.outcome result }
+    ensures outcome { run_from function.now fuel (record { from = 0; to = entry_of function.now.blocks; env = env_of function.now.names slots.old }) ≡ outcome result }
     ensures slots { AreSlots function.now slots.new }
     ensures room { length scratch.new ≡ length scratch.old }
 {

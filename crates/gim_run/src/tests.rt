@@ -38,6 +38,12 @@ fn phis_are_read_before_any_is_assigned(rt: HostRuntime) -> Result<(), Fail> {
         machine.run(&[unsigned(0)], 100),
         Outcome::Returned(unsigned(1))
     );
+    // The entry, three times the head, twice the body, and the exit.
+    assert_eq!(rt;
+        machine.run(&[unsigned(2)], 7),
+        Outcome::Returned(unsigned(1))
+    );
+    assert_eq!(rt; machine.run(&[unsigned(2)], 6), Outcome::Running);
     Ok(())
 }
 
@@ -47,6 +53,7 @@ fn an_endless_block_is_running(rt: HostRuntime) -> Result<(), Fail> {
     let mut machine = prepare(rt.alloc(), &function)?;
     assert_eq!(rt; machine.run(&[], 0), Outcome::Running);
     assert_eq!(rt; machine.run(&[], 5), Outcome::Running);
+    assert_eq!(rt; machine.run(&[], 1_000_000), Outcome::Running);
     Ok(())
 }
 

@@ -63,17 +63,33 @@ fn suffixes_say_the_type(rt: HostRuntime) -> Result<(), Fail> {
 
 #[test]
 fn a_written_type_bounds_its_constant(rt: HostRuntime) -> Result<(), Fail> {
-    let wide = LiteralType::Written(IntType::unsigned_int128());
-    let greatest = "340282366920938463463374607431768211455";
-    assert!(rt; constant(greatest, wide, false) == Some(340282366920938463463374607431768211455));
-    assert!(rt; constant("340282366920938463463374607431768211456", wide, false).is_none());
-    assert!(rt; constant("3402823669209384634633746074317682114550", wide, false).is_none());
-    let small = LiteralType::Written(IntType::signed_char());
-    assert!(rt; constant("128", small, true) == Some(128));
-    assert!(rt; constant("128", small, false).is_none());
-    let truth = LiteralType::Written(IntType::boolean());
-    assert!(rt; constant("1", truth, false) == Some(1));
-    assert!(rt; constant("2", truth, false).is_none());
+    assert!(rt;
+        constant(
+            "340282366920938463463374607431768211455",
+            LiteralType::Written(IntType::unsigned_int128()),
+            false
+        ) == Some(340282366920938463463374607431768211455)
+    );
+    assert!(rt;
+        constant(
+            "340282366920938463463374607431768211456",
+            LiteralType::Written(IntType::unsigned_int128()),
+            false
+        )
+        .is_none()
+    );
+    assert!(rt;
+        constant(
+            "3402823669209384634633746074317682114550",
+            LiteralType::Written(IntType::unsigned_int128()),
+            false
+        )
+        .is_none()
+    );
+    assert!(rt; constant("128", LiteralType::Written(IntType::signed_char()), true) == Some(128));
+    assert!(rt; constant("128", LiteralType::Written(IntType::signed_char()), false).is_none());
+    assert!(rt; constant("1", LiteralType::Written(IntType::boolean()), false) == Some(1));
+    assert!(rt; constant("2", LiteralType::Written(IntType::boolean()), false).is_none());
     Ok(())
 }
 

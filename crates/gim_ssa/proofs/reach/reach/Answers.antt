@@ -1,4 +1,4 @@
-use Rattle.std.proofs.Common.{◌≡◌, ℕ, ◌<◌, length, ap, sym, ◌∙◌, subst, arith}
+use Rattle.std.proofs.Common.{◌≡◌, ◌<◌, length, ap, sym, ◌∙◌, subst, arith}
 use Rattle.gim_ssa.specs.Search.{Adds, AreWithin}
 use Rattle.gim_ssa.specs.Reach.{next_to}
 use Rattle.gim_ssa.proofs.ReachLemmas.{next_read, found_within, reaching_begins, reaching_goes_on, reaching_ends}

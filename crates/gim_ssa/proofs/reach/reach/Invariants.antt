@@ -1,4 +1,3 @@
-use Rattle.std.proofs.Common.{ℕ}
 use Rattle.gim_ssa.specs.Search.{remaining}
 use Rattle.gim_ssa.proofs.ReachLemmas.{IsReaching}
 use Rattle.gim_ssa.proofs.reach.reach.Given as goal

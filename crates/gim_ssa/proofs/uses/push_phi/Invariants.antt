@@ -1,4 +1,4 @@
-use Rattle.std.proofs.Common.{◌≡◌, ℕ, [], ◌∷◌, ◌++◌, map, drop}
+use Rattle.std.proofs.Common.{◌≡◌, ◌++◌, map, drop}
 use Rattle.gim_ast.specs.Readable.{uses_in_phi}
 use Rattle.gim_ssa.specs.Uses.{seen}
 use Rattle.gim_ssa.proofs.uses.push_phi.Given as goal

@@ -1,4 +1,4 @@
-use Rattle.std.proofs.Common.{◌≡◌, ◌+◌, ◌<◌, length, arith, ap, ◌∙◌}
+use Rattle.std.proofs.Common.{◌<◌, length, arith}
 use Rattle.gim_ssa.proofs.UsesLemmas.{next_stmt, noted_on}
 use Rattle.gim_ssa.proofs.uses.push_stmts.Goals as goal
 

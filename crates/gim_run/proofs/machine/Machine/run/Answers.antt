@@ -1,7 +1,7 @@
 use Rattle.std.proofs.Common.{◌≡◌, length, map, sym, ap, subst, ◌∙◌}
 use Rattle.gim_ast.specs.declared.function.Function.{Function}
 use Rattle.gim_ast.specs.Runs.{run_of, start_word}
-use Rattle.gim_run.specs.Machines.{AreArguments}
+use Rattle.gim_run.specs.Arguments.{AreArguments}
 use Rattle.gim_run.specs.Slots.{AreSlots}
 use Rattle.gim_run.proofs.SlotLemmas.{slot_count}
 use Rattle.gim_run.proofs.StartLemmas.{typed_at_start, run_from_start}

@@ -1,0 +1,255 @@
+-- What begins a text: how long it is, and which bytes it has.
+use Rattle.std.proofs.Common.{◌≡◌, ℕ, suc, ◌+◌, ◌-◌, ◌<◌, ◌≤◌, Bool, true, false, cond, List, [], ◌∷◌, ◌++◌, length, take, drop, codes, Option, Some, None, refl, sym, ap, ◌∙◌, subst, arith, inl, inr, one-add}
+use Rattle.std.specs.Prelude.{option_map, find, map, ◌==◌, ◌||◌, ◌&&◌, not}
+use Rattle.std.specs.List.{prefix_len, list_all, list_any}
+use Rattle.std.specs.Str.{bytes_eq}
+use Rattle.std.specs.Cmp.Lexicographic.{bytes_decides}
+use Rattle.std.proofs.lemmas.Bool.{and_parts, and_from, or_from, false≢true, eqb-true}
+use Rattle.std.proofs.lemmas.List.{length-drop, length-take-le}
+use Rattle.std.proofs.lemmas.List.Sums.{prefix_len-le-length}
+use Rattle.std.proofs.lemmas.List.Folds.{list_any-append}
+use Rattle.std.proofs.Math.Seq.{take-add}
+use Rattle.gim_ast.specs.Identifiers.{is_digit, is_letter, is_word_byte, is_word_text, is_block_word, is_reserved, reserved_words}
+use Rattle.gim_text.specs.declared.token.Span.{Span}
+use Rattle.gim_text.specs.declared.token.Token.{Token}
+use Rattle.gim_text.specs.declared.token.Token.TheVariants as tokens
+use Rattle.gim_text.specs.declared.token.TypeWord.{TypeWord}
+use Rattle.gim_text.specs.declared.token.Keyword.{Keyword}
+use Rattle.gim_text.specs.declared.token.Mark.{Mark as MarkKind}
+use Rattle.gim_text.specs.Meanings.{span_of}
+use Rattle.gim_lexer.specs.Tables.{beside}
+use Rattle.gim_lexer.specs.Words.{type_words, keyword_table, type_word_of, keyword_of, plain_word, word_from, word_token}
+use Rattle.gim_lexer.specs.Numbers.{is_suffix_letter}
+use Rattle.gim_lexer.specs.Marks.{short_mark, long_mark}
+use Rattle.gim_lexer.specs.Separators.{opens, begins_with_space, opens_note, is_no_line_feed, line_length, length_to_star_slash, separator_length}
+use Rattle.gim_lexer.specs.Tokens.{place, is_inner, word_at, number_at, text_at, mark_from, mark_at, token_of_text}
+use Rattle.gim_lexer.specs.Spelled.{Spells}
+
+-- ---- runs of bytes
+
+run_passes : (p : ℕ → Bool) (text : List ℕ) → list_all p (take (prefix_len p text) text) ≡ true
+run_passes p [] = refl
+run_passes p (b ∷ text) = by (p b) refl (run_passes p text) where
+  by : (t : Bool) → p b ≡ t → list_all p (take (prefix_len p text) text) ≡ true → list_all p (take (cond t (1 + prefix_len p text) 0) (b ∷ text)) ≡ true
+  by true h all = rw one-add (and_from (p b) (list_all p (take (prefix_len p text) text)) h all)
+  by false h all = refl
+
+run_begins : (p : ℕ → Bool) (b : ℕ) (text : List ℕ) → p b ≡ true → prefix_len p (b ∷ text) ≡ suc (prefix_len p text)
+run_begins p b text h = rw (h, one-add) refl
+
+some_is : {X : Type 0} (x y : X) → Some x ≡ Some y → x ≡ y
+some_is x y e = cc
+
+same_bytes : (a b : List ℕ) → bytes_eq a b ≡ true → a ≡ b
+same_bytes a b h = (bytes_decides a b).0 h
+
+opens_long : (text word : List ℕ) → opens text word ≡ true → length word ≤ length text
+opens_long text [] h = omega arith
+opens_long [] (w ∷ word) h = absurd (false≢true h)
+opens_long (b ∷ text) (w ∷ word) h = omega (arith, opens_long text word (and_parts (w == b) (opens text word) h).1)
+
+opens_first : (b w : ℕ) (text word : List ℕ) → opens (b ∷ text) (w ∷ word) ≡ true → w ≡ b
+opens_first b w text word h = eqb-true w b (and_parts (w == b) (opens text word) h).0
+
+-- ---- separators
+
+pub to_star_slash_within : (text : List ℕ) (n : ℕ) → length_to_star_slash text ≡ Some n → n ≤ length text
+unfolding length_to_star_slash
+to_star_slash_within [] n e = absurd cc
+to_star_slash_within (b ∷ text) n e = by (opens (b ∷ text) (codes "*/")) (length_to_star_slash text) (opens_long (b ∷ text) (codes "*/")) (to_star_slash_within text) e where
+  by : (t : Bool) (o : Option ℕ) → (t ≡ true → 2 ≤ length (b ∷ text)) → ((m : ℕ) → o ≡ Some m → m ≤ length text) → cond t (Some 2) (option_map (λ n. 1 + n) o) ≡ Some n → n ≤ length (b ∷ text)
+  by true o long later e = omega (arith, long refl, some_is 2 n e)
+  by false None long later e = absurd cc
+  by false (Some m) long later e = omega (arith, later m refl, some_is (1 + m) n e)
+
+note_first : (line_begins : Bool) (b : ℕ) (text : List ℕ) → opens_note line_begins (b ∷ text) ≡ true → is_no_line_feed b ≡ true
+note_first line_begins b text h = by (opens (b ∷ text) (codes "//")) line_begins (opens (b ∷ text) (codes ";;")) refl refl h where
+  by : (u l v : Bool) → opens (b ∷ text) (codes "//") ≡ u → opens (b ∷ text) (codes ";;") ≡ v → (u || (l && v)) ≡ true → is_no_line_feed b ≡ true
+  by true l v p q h = ap is_no_line_feed (sym (opens_first b 47 text (codes "/") p))
+  by false true true p q h = ap is_no_line_feed (sym (opens_first b 59 text (codes ";") q))
+  by false true false p q h = absurd (false≢true h)
+  by false false v p q h = absurd (false≢true h)
+
+note_within : (line_begins : Bool) (text : List ℕ) → opens_note line_begins text ≡ true → (0 < line_length text) × (line_length text ≤ length text)
+note_within true [] h = absurd (false≢true h)
+note_within false [] h = absurd (false≢true h)
+note_within line_begins (b ∷ text) h =
+    let e : line_length (b ∷ text) ≡ suc (line_length text) = run_begins is_no_line_feed b text (note_first line_begins b text h) in
+    (omega (arith, e), prefix_len-le-length is_no_line_feed (b ∷ text))
+
+space_long : (text : List ℕ) → begins_with_space text ≡ true → 0 < length text
+space_long [] h = absurd (false≢true h)
+space_long (b ∷ text) h = omega arith
+
+pub separator_within : (line_begins : Bool) (text : List ℕ) (n : ℕ) → separator_length line_begins text ≡ Some n → (0 < n) × (n ≤ length text)
+unfolding separator_length
+separator_within line_begins text n e =
+    by (begins_with_space text) (opens_note line_begins text) (opens text (codes "/*")) (length_to_star_slash (drop 2 text))
+    (space_long text) (note_within line_begins text) (opens_long text (codes "/*")) (to_star_slash_within (drop 2 text)) e where
+      by : (s t u : Bool) (o : Option ℕ) → (s ≡ true → 0 < length text) → (t ≡ true → (0 < line_length text) × (line_length text ≤ length text)) → (u ≡ true → 2 ≤ length text)
+          → ((m : ℕ) → o ≡ Some m → m ≤ length (drop 2 text)) → cond s (Some 1) (cond t (Some (line_length text)) (cond u (option_map (λ n. 2 + n) o) None)) ≡ Some n → (0 < n) × (n ≤ length text)
+      by true t u o space note comment within e = let same : 1 ≡ n = some_is 1 n e in let long = space refl in (omega arith, omega arith)
+      by false true u o space note comment within e = let same : line_length text ≡ n = some_is (line_length text) n e in let w = note refl in (omega (arith, w), omega (arith, w))
+      by false false true (Some m) space note comment within e =
+          let same : 2 + m ≡ n = some_is (2 + m) n e in
+          let w = within m refl in
+          let long = comment refl in
+          let rest : length (drop 2 text) ≡ length text - 2 = length-drop 2 text in
+          (omega arith, omega arith)
+      by false false true None space note comment within e = absurd cc
+      by false false false o space note comment within e = absurd cc
+
+-- ---- words
+
+-- what begins a text: a token with its bytes
+pub record Front (at : ℕ) (text : List ℕ) (t : Token) : Type 0 where
+  pub len : ℕ
+  pub at_place : span_of t ≡ place at len
+  pub long : 0 < len
+  pub within : len ≤ length text
+  pub spelled : Spells (take len text) t
+
+none_among : {X : Type 0} (word : List ℕ) (table : List (List ℕ × X)) → beside word table ≡ None → list_any (λ w. bytes_eq w word) (map (λ (row : List ℕ × X). row.0) table) ≡ false
+none_among word [] h = refl
+none_among {X} word (row ∷ table) h = by (bytes_eq row.0 word) (none_among word table) h where
+  by : (t : Bool) → (beside word table ≡ None → list_any (λ w. bytes_eq w word) (map (λ (row : List ℕ × X). row.0) table) ≡ false)
+      → option_map (λ (r : List ℕ × X). r.1) (cond t (Some row) (find (λ (r : List ℕ × X). bytes_eq r.0 word) table)) ≡ None → (t || list_any (λ w. bytes_eq w word) (map (λ (row : List ℕ × X). row.0) table)) ≡ false
+  by true later h = absurd cc
+  by false later h = later h
+
+not_reserved : (word : List ℕ) → type_word_of word ≡ None → keyword_of word ≡ None → is_block_word word ≡ false → is_reserved word ≡ false
+not_reserved word t k b =
+    let types = map (λ (row : List ℕ × TypeWord). row.0) type_words in
+    let keywords = map (λ (row : List ℕ × Keyword). row.0) keyword_table in
+    let none : list_any (λ w. bytes_eq w word) (types ++ keywords) ≡ false =
+    list_any-append (λ w. bytes_eq w word) types keywords
+    ∙ or_from (list_any (λ w. bytes_eq w word) types) (list_any (λ w. bytes_eq w word) keywords) (none_among word type_words t) (none_among word keyword_table k) in
+    or_from (list_any (λ w. bytes_eq w word) reserved_words) (is_block_word word) none b
+
+plain_place : (word : List ℕ) (span : Span) → span_of (plain_word word span) ≡ span
+plain_place word span = by (is_block_word word) (bytes_eq word (codes "ssa")) where
+  by : (b s : Bool) → span_of (cond b (tokens.BlockWord span) (cond s (tokens.Ssa span) (tokens.Identifier span))) ≡ span
+  by true s = refl
+  by false true = refl
+  by false false = refl
+
+pub word_place : (word : List ℕ) (span : Span) → span_of (word_token word span) ≡ span
+unfolding word_token
+word_place word span = by (type_word_of word) (keyword_of word) where
+  by : (t : Option TypeWord) (k : Option Keyword) → span_of (word_from t k word span) ≡ span
+  by (Some found) k = refl
+  by None (Some found) = refl
+  by None None = plain_place word span
+
+plain_spelled : (word : List ℕ) (span : Span) → is_word_text word ≡ true → type_word_of word ≡ None → keyword_of word ≡ None → Spells word (plain_word word span)
+plain_spelled word span text t k = by (is_block_word word) (bytes_eq word (codes "ssa")) refl refl where
+  by : (b s : Bool) → is_block_word word ≡ b → bytes_eq word (codes "ssa") ≡ s → Spells word (cond b (tokens.BlockWord span) (cond s (tokens.Ssa span) (tokens.Identifier span)))
+  by true s p q = p
+  by false true p q = same_bytes word (codes "ssa") q
+  by false false p q = and_from (is_word_text word) (not (is_reserved word)) text (ap not (not_reserved word t k p))
+
+word_spelled : (word : List ℕ) (span : Span) → is_word_text word ≡ true → Spells word (word_token word span)
+unfolding word_token
+word_spelled word span text = by (type_word_of word) (keyword_of word) refl refl where
+  by : (t : Option TypeWord) (k : Option Keyword) → type_word_of word ≡ t → keyword_of word ≡ k → Spells word (word_from t k word span)
+  by (Some found) k p q = p
+  by None (Some found) p q = q
+  by None None p q = plain_spelled word span text p q
+
+letter_is_word : (b : ℕ) → is_letter b ≡ true → is_word_byte b ≡ true
+letter_is_word b h = rw h refl
+
+word_front : (at b : ℕ) (text : List ℕ) → is_letter b ≡ true → Front at (b ∷ text) (word_at at (b ∷ text))
+unfolding word_at
+word_front at b text h =
+    let n = prefix_len is_word_byte (b ∷ text) in
+    let e : n ≡ suc (prefix_len is_word_byte text) = run_begins is_word_byte b text (letter_is_word b h) in
+    let word : is_word_text (take n (b ∷ text)) ≡ true = rw e (and_from (is_letter b) (list_all is_word_byte (take (prefix_len is_word_byte text) text)) h (run_passes is_word_byte text)) in
+    record {
+      len = n;
+      at_place = word_place (take n (b ∷ text)) (place at n);
+      long = omega arith;
+      within = prefix_len-le-length is_word_byte (b ∷ text);
+      spelled = word_spelled (take n (b ∷ text)) (place at n) word;
+    }
+
+-- ---- numbers, texts and marks
+
+number_front : (at b : ℕ) (text : List ℕ) → is_digit b ≡ true → Front at (b ∷ text) (number_at at (b ∷ text))
+unfolding number_at
+number_front at b text h =
+    let n = prefix_len is_digit (b ∷ text) in
+    let rest = drop n (b ∷ text) in
+    let m = prefix_len is_suffix_letter rest in
+    let e : n ≡ suc (prefix_len is_digit text) = run_begins is_digit b text h in
+    let left : length rest ≡ length (b ∷ text) - n = length-drop n (b ∷ text) in
+    let few : n ≤ length (b ∷ text) = prefix_len-le-length is_digit (b ∷ text) in
+    let few_letters : m ≤ length rest = prefix_len-le-length is_suffix_letter rest in
+    record {
+      len = n + m;
+      at_place = refl;
+      long = omega arith;
+      within = omega arith;
+      spelled = record {
+        digits = take n (b ∷ text);
+        suffix = take m rest;
+        some_digit = omega (arith, length-take-le n (b ∷ text) few);
+        parts = take-add n m (b ∷ text);
+        are_digits = run_passes is_digit (b ∷ text);
+        are_letters = run_passes is_suffix_letter rest;
+        is_kind = refl;
+      };
+    }
+
+text_front : (at : ℕ) (rest : List ℕ) (t : Token) → text_at at rest ≡ Some t → Front at (34 ∷ rest) t
+unfolding text_at
+text_front at rest t e = by (opens (drop (prefix_len is_inner rest) rest) (codes "\"")) refl e where
+  by : (u : Bool) → opens (drop (prefix_len is_inner rest) rest) (codes "\"") ≡ u → cond u (Some (tokens.Text (place at (prefix_len is_inner rest + 2)))) None ≡ Some t → Front at (34 ∷ rest) t
+  by false p e = absurd cc
+  by true p e =
+      let n = prefix_len is_inner rest in
+      let last : 34 ∷ [] ≡ take 1 (drop n rest) = same_bytes (34 ∷ []) (take 1 (drop n rest)) p in
+      let long : 1 ≤ length (drop n rest) = opens_long (drop n rest) (codes "\"") p in
+      let left : length (drop n rest) ≡ length rest - n = length-drop n rest in
+      let more : n + 2 ≡ suc (n + 1) = omega arith in
+      subst (Front at (34 ∷ rest)) (some_is (tokens.Text (place at (n + 2))) t e) (record {
+        len = n + 2;
+        at_place = refl;
+        long = omega arith;
+        within = omega arith;
+        spelled = record {
+          inner = take n rest;
+          parts = ap (λ k. take k (34 ∷ rest)) more ∙ ap (λ bs. 34 ∷ bs) (take-add n 1 rest ∙ ap (λ bs. take n rest ++ bs) (sym last));
+          on_one_line = run_passes is_inner rest;
+        };
+      })
+
+short_front : (at a : ℕ) (text : List ℕ) (t : Token) (m : MarkKind) → short_mark a ≡ Some m → Some (tokens.Mark m (place at 1)) ≡ Some t → Front at (a ∷ text) t
+short_front at a text t m p e =
+    subst (Front at (a ∷ text)) (some_is (tokens.Mark m (place at 1)) t e) (record { len = 1; at_place = refl; long = omega arith; within = omega arith; spelled = inr p })
+
+mark_front : (at : ℕ) (text : List ℕ) (t : Token) → mark_at at text ≡ Some t → Front at text t
+unfolding mark_at
+mark_front at [] t e = absurd cc
+mark_front at (a ∷ []) t e = by (short_mark a) refl e where
+  by : (s : Option MarkKind) → short_mark a ≡ s → mark_from at None s ≡ Some t → Front at (a ∷ []) t
+  by None p e = absurd cc
+  by (Some m) p e = short_front at a [] t m p e
+mark_front at (a ∷ b ∷ text) t e = by (long_mark a b) (short_mark a) refl refl e where
+  by : (l s : Option MarkKind) → long_mark a b ≡ l → short_mark a ≡ s → mark_from at l s ≡ Some t → Front at (a ∷ b ∷ text) t
+  by (Some m) s p q e =
+      subst (Front at (a ∷ b ∷ text)) (some_is (tokens.Mark m (place at 2)) t e) (record { len = 2; at_place = refl; long = omega arith; within = omega arith; spelled = inl p })
+  by None (Some m) p q e = short_front at a (b ∷ text) t m q e
+  by None None p q e = absurd cc
+
+pub token_front : (at : ℕ) (text : List ℕ) (t : Token) → token_of_text at text ≡ Some t → Front at text t
+unfolding token_of_text
+token_front at [] t e = absurd cc
+token_front at (b ∷ text) t e = by (is_letter b) (is_digit b) (b == 34) (opens (b ∷ text) (codes "/*")) refl refl refl e where
+  by : (l d q c : Bool) → is_letter b ≡ l → is_digit b ≡ d → (b == 34) ≡ q
+      → cond l (Some (word_at at (b ∷ text))) (cond d (Some (number_at at (b ∷ text))) (cond q (text_at at text) (cond c None (mark_at at (b ∷ text))))) ≡ Some t → Front at (b ∷ text) t
+  by true d q c h i j e = subst (Front at (b ∷ text)) (some_is (word_at at (b ∷ text)) t e) (word_front at b text h)
+  by false true q c h i j e = subst (Front at (b ∷ text)) (some_is (number_at at (b ∷ text)) t e) (number_front at b text i)
+  by false false true c h i j e = subst (λ a. Front at (a ∷ text) t) (sym (eqb-true b 34 j)) (text_front at text t e)
+  by false false false true h i j e = absurd cc
+  by false false false false h i j e = mark_front at (b ∷ text) t e

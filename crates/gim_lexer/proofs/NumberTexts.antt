@@ -1,0 +1,114 @@
+-- Texts of numbers, and of the other tokens that have a meaning.
+use Rattle.std.proofs.Common.{◌≡◌, ℕ, Bool, true, false, cond, List, [], ◌∷◌, ◌++◌, drop, Option, Some, None, refl, sym, ap, ◌∙◌, subst, arith}
+use Rattle.std.specs.Prelude.{IsTrue, option_map, unwrap_or, find}
+use Rattle.std.specs.List.{list_all}
+use Rattle.std.specs.Str.{str_eq_ignore_ascii_case}
+use Rattle.std.proofs.lemmas.Bool.{and_parts, false≢true}
+use Rattle.std.proofs.lemmas.Bool.Decides.{nat_tests}
+use Rattle.std.proofs.lemmas.List.{append-nil}
+use Rattle.gim_ast.specs.Identifiers.{is_digit, is_number_text, is_identifier, is_block_word}
+use Rattle.gim_text.specs.declared.token.Span.{Span}
+use Rattle.gim_text.specs.declared.token.Token.{Token}
+use Rattle.gim_text.specs.declared.token.Token.TheVariants as tokens
+use Rattle.gim_text.specs.declared.token.NumberKind.{NumberKind}
+use Rattle.gim_text.specs.declared.token.NumberKind.TheVariants.{Plain, Unsigned, Long, UnsignedLong, Wrong}
+use Rattle.gim_text.specs.Meanings.{span_of}
+use Rattle.gim_text.specs.Texts.{text_of, leading_digits}
+use Rattle.gim_lexer.specs.Tables.{meaning_of, beside_in_any_case}
+use Rattle.gim_lexer.specs.Numbers.{is_suffix_letter, suffixes, suffix_kind, number_kind}
+use Rattle.gim_lexer.specs.Cuts.{AreTokens}
+use Rattle.gim_lexer.specs.Spelled.{Spells, AllStandIn}
+use Rattle.gim_lexer.specs.Meant.{IsNumberText, MeansItsText, AllMeanTheirTexts}
+use Rattle.gim_lexer.proofs.Placing.{tokens_stand}
+
+letter_is_no_digit : (b : ℕ) → is_suffix_letter b ≡ true → is_digit b ≡ false
+letter_is_no_digit b h = grind (arith, nat_tests)
+
+front_digits : (digits suffix : List ℕ) → list_all is_digit digits ≡ true → list_all is_suffix_letter suffix ≡ true → leading_digits (digits ++ suffix) ≡ digits
+front_digits [] [] ds ls = refl
+front_digits [] (b ∷ suffix) ds ls = rw (letter_is_no_digit b (and_parts (is_suffix_letter b) (list_all is_suffix_letter suffix) ls).0) refl
+front_digits (d ∷ digits) suffix ds ls =
+    let parts = and_parts (is_digit d) (list_all is_digit digits) ds in
+    rw parts.0 (ap (λ bs. d ∷ bs) (front_digits digits suffix parts.1 ls))
+
+-- what each row of a table has, each meaning that is found has
+meaning_has : {X : Type 0} (q : X → Bool) (test : List ℕ → Bool) (table : List (List ℕ × X)) (x : X) → list_all (λ (row : List ℕ × X). q row.1) table ≡ true → meaning_of test table ≡ Some x → q x ≡ true
+meaning_has q test [] x all e = absurd cc
+meaning_has {X} q test (row ∷ table) x all e =
+    let parts = and_parts (q row.1) (list_all (λ (row : List ℕ × X). q row.1) table) all in
+    by (test row.0) parts.0 (meaning_has q test table x parts.1) e where
+      by : (t : Bool) → q row.1 ≡ true → (meaning_of test table ≡ Some x → q x ≡ true) → option_map (λ (r : List ℕ × X). r.1) (cond t (Some row) (find (λ (r : List ℕ × X). test r.0) table)) ≡ Some x → q x ≡ true
+      by true first later e = ap q (same row.1 x e) ∙ first where
+        same : (y x : X) → Some y ≡ Some x → x ≡ y
+        same y x e = cc
+      by false first later e = later e
+
+abbrev is_not_plain : NumberKind → Bool
+is_not_plain Plain = false
+is_not_plain kind = true
+
+-- only an empty suffix is none
+plain_suffix : (suffix : List ℕ) → suffix_kind suffix ≡ Plain → suffix ≡ []
+plain_suffix [] e = refl
+plain_suffix (b ∷ suffix) e = absurd (by (beside_in_any_case (b ∷ suffix) suffixes) refl e) where
+  by : (o : Option NumberKind) → beside_in_any_case (b ∷ suffix) suffixes ≡ o → unwrap_or o Wrong ≡ Plain → ⊥
+  by None p e = cc
+  by (Some kind) p e = false≢true (sym (ap is_not_plain e) ∙ meaning_has is_not_plain (λ spelling. str_eq_ignore_ascii_case spelling (b ∷ suffix)) (drop 1 suffixes) kind refl p)
+
+kind_is_sound : (kind : NumberKind) (digits suffix : List ℕ) → is_number_text digits ≡ true → leading_digits (digits ++ suffix) ≡ digits → suffix_kind suffix ≡ kind → IsNumberText kind (digits ++ suffix)
+kind_is_sound Plain digits suffix n front e =
+    let all : digits ++ suffix ≡ digits = ap (λ bs. digits ++ bs) (plain_suffix suffix e) ∙ append-nil digits in
+    (ap is_number_text all ∙ n, front ∙ sym all)
+kind_is_sound Unsigned digits suffix n front e = ap is_number_text front ∙ n
+kind_is_sound Long digits suffix n front e = ap is_number_text front ∙ n
+kind_is_sound UnsignedLong digits suffix n front e = ap is_number_text front ∙ n
+kind_is_sound Wrong digits suffix n front e = tt
+
+is_sound : (kind : NumberKind) (text digits suffix : List ℕ) → text ≡ digits ++ suffix → list_all is_digit digits ≡ true → list_all is_suffix_letter suffix ≡ true → number_kind digits suffix ≡ kind → IsNumberText kind text
+unfolding number_kind
+is_sound kind text digits suffix parts ds ls e = subst (IsNumberText kind) (sym parts) (by (is_number_text digits) refl e) where
+  by : (n : Bool) → is_number_text digits ≡ n → cond n (suffix_kind suffix) Wrong ≡ kind → IsNumberText kind (digits ++ suffix)
+  by true n e = kind_is_sound kind digits suffix n (front_digits digits suffix ds ls) e
+  by false n e = subst (λ k. IsNumberText k (digits ++ suffix)) e tt
+
+-- ---- tokens that stand in a source
+
+some_is : {X : Type 0} (x y : X) → Some x ≡ Some y → x ≡ y
+some_is x y e = cc
+
+none_is : {X : Type 0} {P : Type 0} (x : X) → None ≡ Some x → P
+none_is x e = absurd cc
+
+token_means : (source : List ℕ) (t : Token) → Spells (text_of source (span_of t)) t → MeansItsText source t
+token_means source (tokens.TypeWord word at) s = record { identifiers = λ span e. none_is span e; blocks = λ span e. none_is span e; numbers = λ kind span e. none_is (kind, span) e }
+token_means source (tokens.Keyword word at) s = record { identifiers = λ span e. none_is span e; blocks = λ span e. none_is span e; numbers = λ kind span e. none_is (kind, span) e }
+token_means source (tokens.Text at) s = record { identifiers = λ span e. none_is span e; blocks = λ span e. none_is span e; numbers = λ kind span e. none_is (kind, span) e }
+token_means source (tokens.Mark mark at) s = record { identifiers = λ span e. none_is span e; blocks = λ span e. none_is span e; numbers = λ kind span e. none_is (kind, span) e }
+token_means source (tokens.BlockWord at) s = record {
+  identifiers = λ span e. none_is span e;
+  blocks = λ span e. subst (λ a. IsTrue (is_block_word (text_of source a))) (some_is at span e) s;
+  numbers = λ kind span e. none_is (kind, span) e;
+}
+token_means source (tokens.Ssa at) s = record {
+  identifiers = λ span e. subst (λ a. IsTrue (is_identifier (text_of source a))) (some_is at span e) (ap is_identifier s);
+  blocks = λ span e. none_is span e;
+  numbers = λ kind span e. none_is (kind, span) e;
+}
+token_means source (tokens.Identifier at) s = record {
+  identifiers = λ span e. subst (λ a. IsTrue (is_identifier (text_of source a))) (some_is at span e) s;
+  blocks = λ span e. none_is span e;
+  numbers = λ kind span e. none_is (kind, span) e;
+}
+token_means source (tokens.Number kind at) s = record {
+  identifiers = λ span e. none_is span e;
+  blocks = λ span e. none_is span e;
+  numbers = λ k span e. subst (λ (x : NumberKind × Span). IsNumberText x.0 (text_of source x.1)) (some_is (kind, at) (k, span) e)
+      (is_sound kind (text_of source at) s.digits s.suffix s.parts s.are_digits s.are_letters s.is_kind);
+}
+
+all_mean : (source : List ℕ) (ts : List Token) → AllStandIn source ts → AllMeanTheirTexts source ts
+all_mean source [] s = tt
+all_mean source (t ∷ ts) s = (token_means source t s.0.spelled, all_mean source ts s.1)
+
+pub tokens_mean : (source : List ℕ) (ts : List Token) → AreTokens source ts → AllMeanTheirTexts source ts
+tokens_mean source ts cut = all_mean source ts (tokens_stand source ts cut)

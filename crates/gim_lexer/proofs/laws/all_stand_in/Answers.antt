@@ -1,0 +1,5 @@
+use Rattle.gim_lexer.proofs.Placing.{tokens_stand}
+use Rattle.gim_lexer.proofs.laws.all_stand_in.Goals as goal
+
+pub returns : goal.returns
+returns c = tokens_stand

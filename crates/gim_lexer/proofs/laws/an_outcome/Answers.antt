@@ -1,0 +1,5 @@
+use Rattle.gim_lexer.proofs.Outcome.{outcome}
+use Rattle.gim_lexer.proofs.laws.an_outcome.Goals as goal
+
+pub returns : goal.returns
+returns c = outcome

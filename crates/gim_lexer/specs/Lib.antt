@@ -1,0 +1,12 @@
+pub mod Cuts
+pub mod Faults
+pub mod Longest
+pub mod Marks
+pub mod Meant
+pub mod Numbers
+pub mod Pieces
+pub mod Separators
+pub mod Spelled
+pub mod Tables
+pub mod Tokens
+pub mod Words

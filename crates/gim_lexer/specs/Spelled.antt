@@ -1,0 +1,55 @@
+-- What the text of a token is.
+use Rattle.std.specs.Prelude.{◌≡◌, ◌⊎◌, ℕ, ◌<◌, ◌≤◌, IsTrue, Some, List, [], ◌∷◌, ◌++◌, length, codes}
+use Rattle.std.specs.List.{list_all, AllByRecursion}
+use Rattle.gim_ast.specs.Identifiers.{is_digit, is_identifier, is_block_word}
+use Rattle.gim_text.specs.declared.token.Token.{Token}
+use Rattle.gim_text.specs.declared.token.Token.TheVariants as tokens
+use Rattle.gim_text.specs.declared.token.NumberKind.{NumberKind}
+use Rattle.gim_text.specs.Meanings.{span_of}
+use Rattle.gim_text.specs.Texts.{text_of}
+use Rattle.gim_lexer.specs.Tables.{beside}
+use Rattle.gim_lexer.specs.Words.{type_word_of, keyword_of}
+use Rattle.gim_lexer.specs.Numbers.{is_suffix_letter, number_kind}
+use Rattle.gim_lexer.specs.Marks.{short_marks, long_marks}
+use Rattle.gim_lexer.specs.Tokens.{is_inner}
+
+-- one digit or more, and then a suffix
+pub record IsNumber (kind : NumberKind) (text : List ℕ) : Type 0 where
+  pub digits : List ℕ
+  pub suffix : List ℕ
+  pub some_digit : 0 < length digits
+  pub parts : text ≡ digits ++ suffix
+  pub are_digits : IsTrue (list_all is_digit digits)
+  pub are_letters : IsTrue (list_all is_suffix_letter suffix)
+  pub is_kind : number_kind digits suffix ≡ kind
+
+-- what stands between two `"` on one line, with them
+pub record IsQuoted (text : List ℕ) : Type 0 where
+  pub inner : List ℕ
+  pub parts : text ≡ 34 ∷ (inner ++ 34 ∷ [])
+  pub on_one_line : IsTrue (list_all is_inner inner)
+
+-- the text is one that the token may have, wherever it stands
+abbrev pub Spells : List ℕ → Token → Type 0
+Spells text (tokens.TypeWord word at) = type_word_of text ≡ Some word
+Spells text (tokens.Keyword word at) = keyword_of text ≡ Some word
+Spells text (tokens.BlockWord at) = IsTrue (is_block_word text)
+Spells text (tokens.Ssa at) = text ≡ codes "ssa"
+Spells text (tokens.Identifier at) = IsTrue (is_identifier text)
+Spells text (tokens.Number kind at) = IsNumber kind text
+Spells text (tokens.Text at) = IsQuoted text
+Spells text (tokens.Mark mark at) = (beside text long_marks ≡ Some mark) ⊎ (beside text short_marks ≡ Some mark)
+
+-- the token stands in the source, and its text spells it
+pub record StandsIn (source : List ℕ) (token : Token) : Type 0 where
+  pub has_bytes : (span_of token).from < (span_of token).to
+  pub within : (span_of token).to ≤ length source
+  pub spelled : Spells (text_of source (span_of token)) token
+
+abbrev pub AllStandIn : List ℕ → List Token → Type 0
+AllStandIn source tokens = AllByRecursion (StandsIn source) tokens
+
+-- the tokens stand one behind the other, from one place to another
+abbrev pub InOrder : ℕ → List Token → ℕ → Type 0
+InOrder from [] to = from ≤ to
+InOrder from (token ∷ tokens) to = (from ≤ (span_of token).from) × ((span_of token).from < (span_of token).to) × InOrder (span_of token).to tokens to

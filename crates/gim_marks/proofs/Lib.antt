@@ -1,0 +1,5 @@
+pub mod Parts
+pub mod Starts
+pub mod Loops
+pub mod MarksExact
+pub mod BalancedExact

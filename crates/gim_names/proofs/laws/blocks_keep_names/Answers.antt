@@ -1,0 +1,5 @@
+use Rattle.gim_names.proofs.KeptParts.{blocks_keep}
+use Rattle.gim_names.proofs.laws.blocks_keep_names.Goals as goal
+
+pub returns : goal.returns
+returns c = blocks_keep

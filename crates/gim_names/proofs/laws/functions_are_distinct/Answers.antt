@@ -1,0 +1,5 @@
+use Rattle.gim_names.proofs.Keeping.{functions_differ}
+use Rattle.gim_names.proofs.laws.functions_are_distinct.Goals as goal
+
+pub returns : goal.returns
+returns c = functions_differ

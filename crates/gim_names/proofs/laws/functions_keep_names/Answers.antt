@@ -1,0 +1,5 @@
+use Rattle.gim_names.proofs.Keeping.{each_keeps}
+use Rattle.gim_names.proofs.laws.functions_keep_names.Goals as goal
+
+pub returns : goal.returns
+returns c = each_keeps

@@ -1,0 +1,102 @@
+-- What holds of a file and of its functions where no name is at fault.
+use Rattle.std.specs.Prelude.{◌≡◌, ℕ, Bool, true, false, ◌&&◌, ◌||◌, Option, Some, None, List, [], ◌∷◌, ◌++◌, map, Contains}
+use Rattle.std.specs.List.{list_any, list_all}
+use Rattle.gim_ast.specs.Identifiers.{is_anonymous}
+use Rattle.gim_ast.specs.WellFormed.{same_text, all_distinct}
+use Rattle.gim_text.specs.declared.tree.FunctionText.{FunctionText}
+use Rattle.gim_text.specs.declared.tree.DeclText.{DeclText}
+use Rattle.gim_text.specs.declared.tree.BlockText.{BlockText}
+use Rattle.gim_text.specs.declared.tree.ItemText.{ItemText}
+use Rattle.gim_text.specs.Texts.{text_of, name_parts}
+use Rattle.gim_names.specs.declared.mention.Mention.{Mention}
+use Rattle.gim_names.specs.declared.mention.Mention.TheVariants.{Assigned, Used, UsedDefault, Constant}
+use Rattle.gim_names.specs.Mentions.{mentions_of_item, mentions_of_end, mentions_of}
+use Rattle.gim_names.specs.Parts.{all_said, param_text, local_text, declared_text, block_number, assigned_text, assigned_version, plain_version, default_version, version_base, base_default}
+use Rattle.gim_names.specs.Tables.{have_one_each}
+
+abbrev pub ident_text : List ℕ → DeclText → List ℕ
+ident_text source decl = text_of source decl.ident
+
+abbrev pub params_of : List ℕ → FunctionText → List (List ℕ)
+params_of source f = map (ident_text source) f.params
+
+abbrev pub locals_of : List ℕ → FunctionText → List (List ℕ)
+locals_of source f = map (ident_text source) f.decls
+
+abbrev pub number_text : List ℕ → BlockText → List ℕ
+number_text source block = text_of source block.number
+
+-- the whole identifiers that phis and statements assign
+abbrev pub assigned_of : List ℕ → FunctionText → List (List ℕ)
+assigned_of source f = all_said (assigned_text source) (mentions_of source f)
+
+-- a name of a declared base; an anonymous one is a local as a whole
+abbrev pub has_base : List (List ℕ) → List (List ℕ) → List ℕ → Option (List ℕ × List ℕ) → Bool
+has_base locals params text None = false
+has_base locals params text (Some ([], version)) = list_any (same_text text) locals
+has_base locals params text (Some (b ∷ base, version)) = list_any (same_text (b ∷ base)) locals || list_any (same_text (b ∷ base)) params
+
+-- a name whose base is a parameter
+abbrev pub has_param : List (List ℕ) → Option (List ℕ × List ℕ) → Bool
+has_param params None = false
+has_param params (Some ([], version)) = false
+has_param params (Some (b ∷ base, version)) = list_any (same_text (b ∷ base)) params
+
+-- what is assigned and read is a name of a declared base; what is read without `(D)` is assigned; with `(D)` the base is a parameter
+abbrev pub is_declared : List ℕ → List (List ℕ) → List (List ℕ) → List (List ℕ) → Mention → Bool
+is_declared source locals params assigned (Assigned at) = has_base locals params (text_of source at) (name_parts (text_of source at))
+is_declared source locals params assigned (Used at) = has_base locals params (text_of source at) (name_parts (text_of source at)) && list_any (same_text (text_of source at)) assigned
+is_declared source locals params assigned (UsedDefault at) = has_param params (name_parts (text_of source at))
+is_declared source locals params assigned m = true
+
+-- a constant has its word
+abbrev pub has_word : Mention → Bool
+has_word (Constant at fits) = fits
+has_word m = true
+
+abbrev pub are_declared : List ℕ → FunctionText → List Mention → Bool
+are_declared source f ms = list_all (is_declared source (locals_of source f) (params_of source f) (assigned_of source f)) ms
+
+abbrev pub have_words : List Mention → Bool
+have_words ms = list_all has_word ms
+
+pub record KeepsNames (source : List ℕ) (f : FunctionText) : Type 0 where
+  -- parameters and locals have distinct identifiers, and no parameter is an anonymous name
+  pub declared : all_distinct same_text (params_of source f ++ locals_of source f) ≡ true
+  pub params : list_any is_anonymous (params_of source f) ≡ false
+  -- blocks have distinct numbers
+  pub blocks : all_distinct same_text (map (number_text source) f.blocks) ≡ true
+  -- no version is assigned twice
+  pub assigned : all_distinct same_text (all_said (assigned_version source) (mentions_of source f)) ≡ true
+  -- each version has one base, that of an anonymous local counted, and each parameter one default definition at most
+  pub bases : have_one_each (all_said (version_base source) (mentions_of source f)) ≡ true
+  pub defaults : have_one_each (all_said (base_default source) (mentions_of source f)) ≡ true
+  -- no version stands with `(D)` and without
+  pub marks : (version : List ℕ) → list_any (same_text version) (all_said (plain_version source) (mentions_of source f)) ≡ true
+      → list_any (same_text version) (all_said (default_version source) (mentions_of source f)) ≡ false
+  -- each name is declared, and assigned or a default definition of a parameter
+  pub names : are_declared source f (mentions_of source f) ≡ true
+  -- each constant has its word
+  pub constants : have_words (mentions_of source f) ≡ true
+
+-- what the names and constants of an item or an end keep
+pub record PartKeepsNames (source : List ℕ) (f : FunctionText) (ms : List Mention) : Type 0 where
+  pub names : are_declared source f ms ≡ true
+  pub constants : have_words ms ≡ true
+
+-- the same of each item of a block and of its end
+pub record BlockKeepsNames (source : List ℕ) (f : FunctionText) (block : BlockText) : Type 0 where
+  pub items : (item : ItemText) → Contains block.items item → PartKeepsNames source f (mentions_of_item source item)
+  pub end : PartKeepsNames source f (mentions_of_end source block.end)
+
+-- mentions of one version have one base, and default definitions of one parameter one version
+pub record AreOne (source : List ℕ) (m n : Mention) : Type 0 where
+  pub bases : (p q : List ℕ × List ℕ) → version_base source m ≡ Some p → version_base source n ≡ Some q → p.0 ≡ q.0 → p.1 ≡ q.1
+  pub defaults : (p q : List ℕ × List ℕ) → base_default source m ≡ Some p → base_default source n ≡ Some q → p.0 ≡ q.0 → p.1 ≡ q.1
+
+-- what the mentions of a function declare is what it declares
+pub record MentionsDeclare (source : List ℕ) (f : FunctionText) : Type 0 where
+  pub params : all_said (param_text source) (mentions_of source f) ≡ params_of source f
+  pub locals : all_said (local_text source) (mentions_of source f) ≡ locals_of source f
+  pub declared : all_said (declared_text source) (mentions_of source f) ≡ params_of source f ++ locals_of source f
+  pub blocks : all_said (block_number source) (mentions_of source f) ≡ map (number_text source) f.blocks

@@ -1,0 +1,7 @@
+pub mod Mentions
+pub mod Parts
+pub mod Rules
+pub mod NamesFault
+pub mod Tables
+pub mod Kept
+pub mod FirstPlace

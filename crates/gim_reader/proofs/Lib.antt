@@ -1,0 +1,3 @@
+pub mod OneFile
+pub mod ReaderLemmas
+pub mod WrittenLemmas

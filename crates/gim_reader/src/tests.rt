@@ -1,0 +1,314 @@
+//! Each kind of fault at each of its places, and whole files that are read.
+
+use crate::{GimpleKind, read};
+use gim_text::{Span, text};
+use std::process::Abort;
+use std::test::Fail;
+
+/// What stands before the blocks of a function of two parameters and three locals.
+const HEAD: &str = "int __GIMPLE (ssa)\nf (int x, long y)\n{\n  int a;\n  int _4;\n  long _5;\n";
+
+/// Blocks that are read.
+const READ: [&str; 5] = [
+    "__BB(2): return 5;",
+    "__BB(2,freq(5)): _4 = -5; return _4;",
+    "__BB(2): _4 = - _Literal (int) 5; goto __BB3(likely); __BB(3): return _4;",
+    "__BB(2): if (x_1(D) < 0) goto __BB3; else goto __BB3; __BB(3): a_9 = __PHI (__BB2: x_1(D)); return a_9;",
+    "__BB(2): a_999999999 = 5; return 0;",
+];
+
+/// Blocks with the kind of their first fault, and the token where it stands: faults of lexing and syntax.
+const SYNTAX: [(&str, GimpleKind, &str); 12] = [
+    (
+        "__BB(2): _4 = foo (x_1(D)); return _4;",
+        GimpleKind::Unsupported,
+        "foo",
+    ),
+    (
+        "__BB(2): x_1(D) = 5; return 0;",
+        GimpleKind::Unsupported,
+        "x_1",
+    ),
+    ("__BB(2): return 0x10;", GimpleKind::Unsupported, "x10"),
+    ("__BB(2): return 007;", GimpleKind::Syntax, "007"),
+    ("__BB(2): return 5ulu;", GimpleKind::Syntax, "5ulu"),
+    ("__BB(02): return 5;", GimpleKind::Syntax, "02"),
+    (
+        "__BB(2): return _Literal (int) 5u;",
+        GimpleKind::Syntax,
+        "5u",
+    ),
+    ("__BB(2): goto __BB02;", GimpleKind::Unsupported, "__BB02"),
+    ("__BB(2): return 5; int q;", GimpleKind::Unsupported, "int"),
+    ("__BB(2): return 5; }", GimpleKind::Syntax, "}"),
+    ("__BB(2): _4 = x_1(D) +", GimpleKind::Syntax, "}"),
+    ("__BB(2): return 5; @", GimpleKind::Lex, ""),
+];
+
+/// Faults of names.
+const NAMES: [(&str, GimpleKind, &str); 13] = [
+    (
+        "__BB(2): _4 = 1; _4 = 2; return _4;",
+        GimpleKind::Redefined,
+        "_4",
+    ),
+    (
+        "__BB(2): a_4 = 1; return a_4;",
+        GimpleKind::Redefined,
+        "a_4",
+    ),
+    (
+        "__BB(2): return x_1(D); __BB(2): return 5;",
+        GimpleKind::Redefined,
+        "2",
+    ),
+    (
+        "__BB(2): a_7 = x_1(D); return x_2(D);",
+        GimpleKind::Redefined,
+        "x_2",
+    ),
+    (
+        "__BB(2): x_1 = 5; return x_1(D);",
+        GimpleKind::Redefined,
+        "x_1",
+    ),
+    ("__BB(2): return q_7;", GimpleKind::Undeclared, "q_7"),
+    ("__BB(2): return a;", GimpleKind::Undeclared, "a"),
+    ("__BB(2): return a_3(D);", GimpleKind::Undeclared, "a_3"),
+    ("__BB(2): return _4(D);", GimpleKind::Undeclared, "_4"),
+    ("__BB(2): return x_3;", GimpleKind::Undeclared, "x_3"),
+    ("__BB(2): _6 = 5; return 0;", GimpleKind::Undeclared, "_6"),
+    (
+        "__BB(2): _4 = 9223372036854775808; return 0;",
+        GimpleKind::WideLiteral,
+        "9223372036854775808",
+    ),
+    (
+        "__BB(2): _4 = -5u; return 0;",
+        GimpleKind::WideLiteral,
+        "5u",
+    ),
+];
+
+/// Faults of shape, of types and of limits.
+const RULES: [(&str, GimpleKind, &str); 16] = [
+    ("", GimpleKind::MissingBlock, "}"),
+    ("__BB(2): goto __BB3;", GimpleKind::MissingBlock, "__BB3"),
+    (
+        "__BB(2): if (0 < 1) goto __BB2; else goto __BB9;",
+        GimpleKind::MissingBlock,
+        "__BB9",
+    ),
+    ("__BB(2): _4 = 5;", GimpleKind::NoReturn, "__BB"),
+    (
+        "__BB(2): a_7 = __PHI (__BB2: 1); goto __BB2;",
+        GimpleKind::BadPhi,
+        "a_7",
+    ),
+    (
+        "__BB(2): goto __BB3; __BB(3): _4 = 5; a_7 = __PHI (__BB2: 1); return a_7;",
+        GimpleKind::BadPhi,
+        "a_7",
+    ),
+    (
+        "__BB(2): goto __BB3; __BB(3): a_7 = __PHI (__BB4: 1); return a_7;",
+        GimpleKind::BadPhi,
+        "a_7",
+    ),
+    ("__BB(2): return 5l;", GimpleKind::TypeMismatch, "5l"),
+    (
+        "__BB(2): return _Literal (long) 5;",
+        GimpleKind::TypeMismatch,
+        "_Literal",
+    ),
+    (
+        "__BB(2): _4 = x_1(D) + y_2(D); return _4;",
+        GimpleKind::TypeMismatch,
+        "x_1",
+    ),
+    (
+        "__BB(2): _4 = (long) x_1(D); return _4;",
+        GimpleKind::TypeMismatch,
+        "(",
+    ),
+    ("__BB(2): _5 = -5; return 0;", GimpleKind::TypeMismatch, "-"),
+    (
+        "__BB(2): if (x_1(D) < y_2(D)) goto __BB2; else goto __BB2;",
+        GimpleKind::TypeMismatch,
+        "x_1",
+    ),
+    (
+        "__BB(2): goto __BB3; __BB(3): a_7 = __PHI (__BB2: y_2(D)); return a_7;",
+        GimpleKind::TypeMismatch,
+        "__BB2",
+    ),
+    (
+        "__BB(2): a_1000000000 = 5; return 0;",
+        GimpleKind::TooLarge,
+        "a_1000000000",
+    ),
+    (
+        "__BB(1000000000): return 5;",
+        GimpleKind::TooLarge,
+        "1000000000",
+    ),
+];
+
+/// Each stage is over the whole file before the next.
+const STAGES: [(&str, GimpleKind, &str); 4] = [
+    (
+        "__BB(2): return 5l; __BB(3): return q_7;",
+        GimpleKind::Undeclared,
+        "q_7",
+    ),
+    (
+        "__BB(2): return 5l; __BB(3): goto __BB9;",
+        GimpleKind::MissingBlock,
+        "__BB9",
+    ),
+    (
+        "__BB(2): a_1000000000 = 5; return 5l;",
+        GimpleKind::TypeMismatch,
+        "5l",
+    ),
+    (
+        "__BB(2): return q_7; return",
+        GimpleKind::Unsupported,
+        "return",
+    ),
+];
+
+/// Whole files that are read, with how many functions they have.
+const FILES: [(&str, usize); 2] = [
+    ("", 0),
+    (
+        ";; Function f (f, funcdef_no=0)\n\nint __GIMPLE (ssa,guessed_local(7))\nf (void)\n{ __BB(2): return 0; }\n",
+        1,
+    ),
+];
+
+/// Whole files with the kind and the token of their first fault.
+const HEADS: [(&str, GimpleKind, &str); 7] = [
+    (
+        "int __GIMPLE (startwith(\"x\"))\nf ()\n{ __BB(2): return 0; }\n",
+        GimpleKind::Unsupported,
+        "__GIMPLE",
+    ),
+    (
+        "int __GIMPLE ((ssa))\nf ()\n{ __BB(2): return 0; }\n",
+        GimpleKind::Unsupported,
+        "__GIMPLE",
+    ),
+    (
+        "int __GIMPLE (ssa)\nf (int _6)\n{ __BB(2): return 0; }\n",
+        GimpleKind::Undeclared,
+        "_6",
+    ),
+    (
+        "int __GIMPLE (ssa)\nf (int p, int p)\n{ __BB(2): return 0; }\n",
+        GimpleKind::Redefined,
+        "p",
+    ),
+    (
+        "int __GIMPLE (ssa)\nf (int x, void)\n{ __BB(2): return 0; }\n",
+        GimpleKind::Unsupported,
+        "void",
+    ),
+    (
+        "int __GIMPLE (ssa)\nf ()\n{ __BB(2): return 0; }\nint __GIMPLE (ssa)\nf ()\n{ __BB(2): return 0; }\n",
+        GimpleKind::Redefined,
+        "f",
+    ),
+    (
+        "short long __GIMPLE (ssa)\nf ()\n{ __BB(2): return 0; }\n",
+        GimpleKind::Unsupported,
+        "long",
+    ),
+];
+
+/// The text of a file whose one function has these blocks.
+fn with_head(rt: &impl AllocGlobal, blocks: &str) -> Result<Vec<u8>, Fail> {
+    let mut bytes = Vec::new(rt.alloc());
+    for part in [HEAD, blocks, "}\n"] {
+        bytes.extend_from_slice(part.as_bytes())?;
+    }
+    Ok(bytes)
+}
+
+/// Reads a file, and compares its first fault.
+fn refuse(
+    rt: &(impl Abort + AllocGlobal),
+    source: &[u8],
+    kind: GimpleKind,
+    token: &str,
+) -> Result<(), Fail> {
+    match read(rt.alloc(), source) {
+        Ok(_) => assert!(rt; false),
+        Err(fault) => {
+            assert!(rt; fault.kind == kind);
+            let span = Span {
+                from: fault.at,
+                to: fault.at.saturating_add(fault.len),
+            };
+            assert!(rt; text(source, span) == token.as_bytes());
+        }
+    }
+    Ok(())
+}
+
+fn refuse_all(
+    rt: &(impl Abort + AllocGlobal),
+    cases: &[(&str, GimpleKind, &str)],
+) -> Result<(), Fail> {
+    for (blocks, kind, token) in cases {
+        let source = with_head(rt, blocks)?;
+        refuse(rt, source.as_slice(), *kind, token)?;
+    }
+    Ok(())
+}
+
+#[test]
+fn blocks_are_read(rt: HostRuntime) -> Result<(), Fail> {
+    for blocks in &READ {
+        let source = with_head(&rt, blocks)?;
+        assert!(rt; read(rt.alloc(), source.as_slice()).is_ok());
+    }
+    Ok(())
+}
+
+#[test]
+fn faults_of_syntax(rt: HostRuntime) -> Result<(), Fail> {
+    refuse_all(&rt, SYNTAX.as_slice())
+}
+
+#[test]
+fn faults_of_names(rt: HostRuntime) -> Result<(), Fail> {
+    refuse_all(&rt, NAMES.as_slice())
+}
+
+#[test]
+fn faults_of_shape_types_and_limits(rt: HostRuntime) -> Result<(), Fail> {
+    refuse_all(&rt, RULES.as_slice())
+}
+
+#[test]
+fn stages_come_one_after_another(rt: HostRuntime) -> Result<(), Fail> {
+    refuse_all(&rt, STAGES.as_slice())
+}
+
+#[test]
+fn files_are_read(rt: HostRuntime) -> Result<(), Fail> {
+    for (source, count) in &FILES {
+        let functions = read(rt.alloc(), source.as_bytes());
+        assert!(rt; functions.is_ok_and(|list| list.len() == *count));
+    }
+    Ok(())
+}
+
+#[test]
+fn heads_are_refused(rt: HostRuntime) -> Result<(), Fail> {
+    for (source, kind, token) in &HEADS {
+        refuse(&rt, source.as_bytes(), *kind, token)?;
+    }
+    Ok(())
+}

@@ -1,0 +1,8 @@
+pub mod Blocks
+pub mod Phis
+pub mod Shape
+pub mod Tables
+pub mod Places
+pub mod Limits
+pub mod Seen
+pub mod Kept

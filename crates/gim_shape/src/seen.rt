@@ -1,0 +1,18 @@
+//! What stands at the places of a function that were gone through.
+
+ghost use Rattle.std.specs.Prelude.{◌≤◌};
+
+use std::collections::HashSet;
+
+/// The names and blocks at the places of a function so far.
+#[derive(Drop)]
+pub struct Seen<'a> {
+    /// The versions of names.
+    pub(crate) versions: HashSet<&'a [u8]>,
+    /// How many names there are; they are told apart by their versions.
+    pub(crate) names: usize,
+    /// How many blocks there are.
+    pub(crate) blocks: usize,
+    ghost names_in_range: { names ≤ 20000 },
+    ghost blocks_in_range: { blocks ≤ 2000 },
+}

@@ -1,0 +1,190 @@
+-- Blocks are read exactly.
+use Rattle.std.proofs.Common.{◌≡◌, List, [], ◌∷◌, ◌++◌, Option, Some, None, Ok, refl, sym, subst, inl, inr}
+use Rattle.grammar.specs.Spelling.{Spelling, Begins, Meant, Then, Mapped, Steps, Item, Many}
+use Rattle.grammar.specs.Reading.{Answer, ◌>>=◌}
+use Rattle.grammar.specs.Exact.{IsApart, IsExact}
+use Rattle.grammar.proofs.Parts.{apart_within}
+use Rattle.grammar.proofs.Sequence.{Never}
+use Rattle.grammar.proofs.Chains.{items_of_steps, steps_of_items}
+use Rattle.gim_text.specs.Meanings.{mark, keyword}
+use Rattle.gim_text.specs.declared.fault.Part.{Part}
+use Rattle.gim_text.specs.declared.fault.Part.TheVariants.{InBlock}
+use Rattle.gim_text.specs.declared.token.Span.{Span}
+use Rattle.gim_text.specs.declared.token.Token.{Token}
+use Rattle.gim_text.specs.declared.token.Token.TheVariants as tokens
+use Rattle.gim_text.specs.declared.token.Keyword.TheVariants as keywords
+use Rattle.gim_text.specs.declared.token.Mark.TheVariants as marks
+use Rattle.gim_text.specs.declared.tree.ItemText.{ItemText}
+use Rattle.gim_text.specs.declared.tree.EndText.{EndText}
+use Rattle.gim_text.specs.declared.tree.BlockText.{BlockText}
+use Rattle.gim_marks.specs.Grammar.{Closing}
+use Rattle.gim_marks.specs.Readers.{plain_number, mark_at, closing_at}
+use Rattle.gim_marks.proofs.Parts.{Reads, seen_by, after_token, after_free, in_sequence, in_words}
+use Rattle.gim_marks.proofs.Starts.{Begun, meant_begun, front_begun, Either, left_of, right_of}
+use Rattle.gim_marks.proofs.Loops as loops
+use Rattle.gim_marks.proofs.MarksExact.{some_mark, some_keyword, some_plain_number, mark_reads}
+use Rattle.gim_marks.proofs.BalancedExact.{closing_reads}
+use Rattle.gim_statements.specs.Grammar.{SpellsItem, SpellsNote, SpellsEndIfAny, SpellsBlock, GoesOnBlock}
+use Rattle.gim_statements.specs.ItemReaders.{item_at}
+use Rattle.gim_statements.specs.BlockReaders.{note_at, further_item_at, items_at, end_at, block_at}
+use Rattle.gim_statements.proofs.OperandsExact.{IsName}
+use Rattle.gim_statements.proofs.ItemsExact.{IsComma, comma_is, item_reads, item_begun}
+use Rattle.gim_statements.proofs.EndsExact.{StartsEnd, end_begun, end_reads}
+
+-- notes
+
+CommaForm : Spelling Token Span
+CommaForm = Then (Meant (mark marks.Comma)) (λ m. Closing)
+
+Note : Spelling Token Span
+Note = Either (Meant (mark marks.Close)) CommaForm
+
+comma_reads : Reads CommaForm Never (λ input. mark_at marks.Comma InBlock input >>= λ m. closing_at InBlock m.1)
+unfolding CommaForm
+comma_reads = after_token (mark marks.Comma) InBlock (some_mark marks.Comma) (λ m. Closing) Never (λ m. closing_at InBlock m.1) (λ m. closing_reads InBlock)
+
+comma_begun : (x : Span) (w : List Token) → CommaForm x w → Begun IsComma w
+unfolding CommaForm
+comma_begun x w (m, u, v, comma, others, cut) = front_begun IsComma u v w (meant_begun (mark marks.Comma) IsComma comma_is m u comma) cut
+
+abbrev IsClose : Token → Type 0
+IsClose (tokens.Mark marks.Close at) = Unit {0}
+IsClose t = ⊥
+
+close_is : (t : Token) (x : Span) → mark marks.Close t ≡ Some x → IsClose t
+close_is (tokens.Mark marks.Close at) x e = tt
+close_is t x e = absurd (cc)
+
+note_exact : (input : List Token) → IsExact Note Never input (note_at input)
+unfolding Note
+note_exact (tokens.Mark marks.Comma at ∷ rest) =
+    right_of (Meant (mark marks.Close)) CommaForm Never IsClose (meant_begun (mark marks.Close) IsClose close_is) comma_reads.some (tokens.Mark marks.Comma at ∷ rest) (closing_at InBlock rest) (λ h. h)
+    (comma_reads.exact (tokens.Mark marks.Comma at ∷ rest))
+note_exact input =
+    left_of (Meant (mark marks.Close)) CommaForm Never IsComma comma_begun (some_mark marks.Close) input (mark_at marks.Close InBlock input) (λ h. h) ((mark_reads marks.Close InBlock Never).exact input)
+
+note_reads : Reads Note Never note_at
+unfolding Note
+note_reads =
+    let some = some_mark marks.Close in
+    record { some = record { value = some.value; after = some.after; spelled = inl some.spelled }; exact = λ input. note_exact input }
+
+note_spelled : (x : Span) (w : List Token) → Note x w → SpellsNote w
+unfolding Note CommaForm
+note_spelled x w (inl close) = inl (x, close)
+note_spelled x w (inr (m, u, v, comma, closing, cut)) = inr (u, v, (m, comma), (x, closing), cut)
+
+note_of : (w : List Token) → SpellsNote w → (x : Span) × Note x w
+unfolding Note CommaForm
+note_of w (inl (x, close)) = (x, inl close)
+note_of w (inr (u, v, (m, comma), (x, closing), cut)) = (x, inr (m, u, v, comma, closing, cut))
+
+-- items
+
+none_is_some : {A : Type 0} (x : A) → None ≡ Some x → ⊥
+none_is_some x e = cc
+
+name_kept : (t : Token) → IsName t → ¬ Never t
+name_kept t h = λ impossible. impossible
+
+never_on : (t : Token) → Never t → IsName t
+never_on t h = absurd h
+
+item_goes_on : (s : List ItemText) (t : Token) (rest : List Token) (answer : Answer Token Part (List ItemText)) → further_item_at s (t ∷ rest) ≡ Some answer → IsName t
+item_goes_on s (tokens.Identifier at) rest answer e = tt
+item_goes_on s (tokens.Ssa at) rest answer e = tt
+item_goes_on s t rest answer e = absurd (none_is_some answer e)
+
+item_more : (s : List ItemText) (t : Token) (rest : List Token) (answer : Answer Token Part (List ItemText)) → further_item_at s (t ∷ rest) ≡ Some answer
+    → (item_at (t ∷ rest) >>= λ x. Ok (s ++ x.0 ∷ [], x.1)) ≡ answer
+item_more s (tokens.Identifier at) rest answer e = cc
+item_more s (tokens.Ssa at) rest answer e = cc
+item_more s t rest answer e = absurd (none_is_some answer e)
+
+item_ends : (s : List ItemText) (t : Token) (rest : List Token) → further_item_at s (t ∷ rest) ≡ None → ¬ IsName t
+item_ends s (tokens.Identifier at) rest e = absurd (cc)
+item_ends s (tokens.Ssa at) rest e = absurd (cc)
+item_ends s t rest e = λ impossible. impossible
+
+ItemSteps : List ItemText → List Token → Type 0
+ItemSteps = Steps (Item SpellsItem) []
+
+items_reads : Reads ItemSteps IsName items_at
+unfolding ItemSteps
+items_reads = loops.loop_reads SpellsItem Never IsName IsName item_at item_reads further_item_at item_begun name_kept never_on (λ s. refl) item_goes_on item_more item_ends []
+
+-- blocks
+
+block : Span → Span → List ItemText → Option EndText → BlockText
+block head number items end = record { head = head; number = number; items = items; end = end }
+
+AfterColon : Span → Span → Spelling Token BlockText
+AfterColon head number = Then ItemSteps (λ items. Mapped (block head number items) SpellsEndIfAny)
+
+AfterNumber : Span → Span → Spelling Token BlockText
+AfterNumber head number = Then Note (λ right. Then (Meant (mark marks.Colon)) (λ k. AfterColon head number))
+
+BlockForm : Spelling Token BlockText
+BlockForm = Then (Meant (keyword keywords.Block)) (λ head. Then (Meant (mark marks.Open)) (λ o. Then (Meant plain_number) (AfterNumber head)))
+
+end_apart : (items : List ItemText) (end : Option EndText) (v z : List Token) → SpellsEndIfAny end v → IsApart GoesOnBlock z → IsApart IsName (v ++ z)
+end_apart items end [] z s far = apart_within IsName GoesOnBlock name_goes_on z far
+  where
+    name_goes_on : (t : Token) → IsName t → GoesOnBlock t
+    name_goes_on (tokens.Identifier at) h = tt
+    name_goes_on (tokens.Ssa at) h = tt
+    name_goes_on t h = absurd h
+end_apart items end (t ∷ v) z s far = kept t (end_begun end t v s)
+  where
+    kept : (t : Token) → StartsEnd t → ¬ IsName t
+    kept (tokens.Keyword word at) h = λ impossible. impossible
+    kept t h = absurd h
+
+body_at : Span → Span → List Token → Answer Token Part BlockText
+body_at head number input = items_at input >>= λ items. end_at items.1 >>= λ end. Ok (record { head = head; number = number; items = items.0; end = end.0 }, end.1)
+
+body_reads : (head number : Span) → Reads (AfterColon head number) GoesOnBlock (body_at head number)
+unfolding AfterColon block body_at
+body_reads head number =
+    in_sequence ItemSteps (λ items. Mapped (block head number items) SpellsEndIfAny) IsName GoesOnBlock (λ items y v z m far. end_apart items m.0 v z m.1 far) items_at
+    (λ items. end_at items.1 >>= λ end. Ok (record { head = head; number = number; items = items.0; end = end.0 }, end.1)) items_reads (λ items.
+    seen_by (block head number items) SpellsEndIfAny GoesOnBlock end_at end_reads)
+
+block_form_reads : Reads BlockForm GoesOnBlock block_at
+unfolding BlockForm AfterNumber AfterColon block body_at
+block_form_reads =
+    after_token (keyword keywords.Block) InBlock (some_keyword keywords.Block) (λ head. Then (Meant (mark marks.Open)) (λ o. Then (Meant plain_number) (AfterNumber head))) GoesOnBlock _ (λ head.
+    after_token (mark marks.Open) InBlock (some_mark marks.Open) (λ o. Then (Meant plain_number) (AfterNumber head)) GoesOnBlock _ (λ o.
+    after_token plain_number InBlock some_plain_number (AfterNumber head) GoesOnBlock _ (λ number.
+    after_free Note (λ right. Then (Meant (mark marks.Colon)) (λ k. AfterColon head number)) GoesOnBlock note_at _ note_reads (λ right.
+    after_token (mark marks.Colon) InBlock (some_mark marks.Colon) (λ k. AfterColon head number) GoesOnBlock _ (λ k.
+    body_reads head number)))))
+
+block_spelled : (x : BlockText) (w : List Token) → BlockForm x w → SpellsBlock x w
+unfolding BlockForm AfterNumber AfterColon ItemSteps block
+block_spelled x w (head, u, v, word, (o, u1, v1, left, (number, u2, v2, digits, (right, u3, v3, note, (k, u4, v4, colon, (items, u5, v5, steps, (end, s, same), cut5), cut4), cut3), cut2), cut1), cut) =
+    let many = items_of_steps SpellsItem [] items u5 steps in
+    subst (λ y. SpellsBlock y w) same
+    (u, v, word, (u1, v1, (o, left), (u2, v2, digits, (u3, v3, note_spelled right u3 note, (u4, v4, (k, colon), (u5, v5, subst (λ l. Many SpellsItem l u5) (sym many.1) many.2, s, cut5), cut4), cut3), cut2), cut1), cut)
+
+block_of : (x : BlockText) (w : List Token) → SpellsBlock x w → BlockForm x w
+unfolding BlockForm AfterNumber AfterColon ItemSteps block
+block_of x w (u, v, word, (u1, v1, (o, left), (u2, v2, digits, (u3, v3, note, (u4, v4, (k, colon), (u5, v5, many, s, cut5), cut4), cut3), cut2), cut1), cut) =
+    let right = note_of u3 note in
+    (x.head, u, v, word, (o, u1, v1, left, (x.number, u2, v2, digits, (right.0, u3, v3, right.1, (k, u4, v4, colon, (x.items, u5, v5, steps_of_items SpellsItem [] x.items u5 many, (x.end, s, refl), cut5), cut4), cut3), cut2), cut1), cut)
+
+-- Blocks.
+pub block_reads : Reads SpellsBlock GoesOnBlock block_at
+block_reads = in_words BlockForm SpellsBlock GoesOnBlock block_at block_spelled block_of block_form_reads
+
+pub some_block : Begins SpellsBlock []
+some_block = block_reads.some
+
+pub block_exact : (input : List Token) → IsExact SpellsBlock GoesOnBlock input (block_at input)
+block_exact input = block_reads.exact input
+
+-- a block begins with `__BB`
+pub block_begun : (x : BlockText) (w : List Token) → SpellsBlock x w → Begun (λ t. (at : Span) × (keyword keywords.Block t ≡ Some at)) w
+block_begun x w (u, v, word, others, cut) =
+    front_begun (λ t. (at : Span) × (keyword keywords.Block t ≡ Some at)) u v w
+    (meant_begun (keyword keywords.Block) (λ t. (at : Span) × (keyword keywords.Block t ≡ Some at)) (λ t at e. (at, e)) x.head u word) cut

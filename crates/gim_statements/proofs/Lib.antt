@@ -1,0 +1,5 @@
+pub mod OperandsExact
+pub mod RightsExact
+pub mod ItemsExact
+pub mod EndsExact
+pub mod BlocksExact

@@ -1,0 +1,6 @@
+pub mod Words
+pub mod Grammar
+pub mod OperandReaders
+pub mod RightReaders
+pub mod ItemReaders
+pub mod BlockReaders

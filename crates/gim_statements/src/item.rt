@@ -1,0 +1,92 @@
+//! Phis and statements.
+
+ghost use Rattle.std.specs.Prelude.{◌≡◌, ◌<◌, ◌≤◌, length, IfOk, IfSome, option_map};
+ghost use Rattle.grammar.specs.Gives.{Gives, GivesInMemory};
+ghost use Rattle.gim_statements.specs.ItemReaders as readers;
+
+use crate::operand::read_operand;
+use crate::right::read_right;
+use gim_marks::{read_block_word, read_mark, read_name};
+use gim_text::{ArgText, ItemText, Keyword, Mark, Part, Span, Token, TokenFault, TokenStop};
+use pm_items::Items;
+use std::alloc::Global;
+
+/// An argument of a phi.
+fn read_arg(tokens: &[Token]) -> Result<(ArgText, &[Token]), TokenFault<'_>>
+    ensures reads { Gives (λ x. (x.0, x.1.now)) result (readers.arg_at tokens.now) }
+    ensures shorter { IfOk result (λ x. length x.1.now < length tokens.now) }
+{
+    let (from, rest) = read_block_word(Part::InBlock, tokens)?;
+    let (_, rest) = read_mark(Mark::Colon, Part::InBlock, rest)?;
+    let (operand, rest) = read!(read_operand(rest));
+    Ok((ArgText { from, operand }, rest))
+}
+
+/// What stands after a comma, where there is one.
+fn after_comma(tokens: &[Token]) -> Option<&[Token]>
+    ensures value { readers.after_comma tokens.now ≡ option_map (λ x. x.now) result }
+    ensures shorter { IfSome result (λ x. length x.now < length tokens.now) }
+{
+    match tokens {
+        [Token::Mark(Mark::Comma, _), rest @ ..] => Some(rest),
+        _ => None,
+    }
+}
+
+/// The arguments of a phi, one or more.
+fn read_args(alloc: Global, tokens: &[Token]) -> Result<(Items<ArgText>, &[Token]), TokenStop<'_>>
+    ensures reads { GivesInMemory (λ x. (x.0, x.1.now)) result (readers.args_at tokens.now) }
+    ensures shorter { IfOk result (λ x. length x.1.now < length tokens.now) }
+{
+    let (first, mut rest) = read!(read_arg(tokens));
+    let mut args = Items::new(alloc);
+    args.push(first)?;
+    while let Some(after) = after_comma(rest) {
+        let (arg, after) = read!(read_arg(after));
+        args.push(arg)?;
+        rest = after;
+    }
+    Ok((args, rest))
+}
+
+/// What stands after `name = __PHI`.
+fn read_phi(
+    alloc: Global,
+    name: Span,
+    tokens: &[Token],
+) -> Result<(ItemText, &[Token]), TokenStop<'_>>
+    ensures reads { GivesInMemory (λ x. (x.0, x.1.now)) result (readers.phi_at name tokens.now) }
+    ensures shorter { IfOk result (λ x. length x.1.now < length tokens.now) }
+{
+    let (_, rest) = read_mark(Mark::Open, Part::InBlock, tokens)?;
+    let (args, rest) = read!(read_args(alloc, rest));
+    let (_, rest) = read_mark(Mark::Close, Part::InBlock, rest)?;
+    let (_, rest) = read_mark(Mark::Semicolon, Part::InBlock, rest)?;
+    Ok((ItemText::Phi(name, args), rest))
+}
+
+/// What stands after the `name =` of a statement.
+fn read_statement(name: Span, tokens: &[Token]) -> Result<(ItemText, &[Token]), TokenStop<'_>>
+    ensures reads { GivesInMemory (λ x. (x.0, x.1.now)) result (readers.statement_at name tokens.now) }
+    ensures shorter { IfOk result (λ x. length x.1.now < length tokens.now) }
+{
+    let (right, rest) = read!(read_right(tokens));
+    let (_, rest) = read_mark(Mark::Semicolon, Part::InBlock, rest)?;
+    Ok((ItemText::Stmt(name, right), rest))
+}
+
+/// A phi or a statement.
+pub(crate) fn read_item(
+    alloc: Global,
+    tokens: &[Token],
+) -> Result<(ItemText, &[Token]), TokenStop<'_>>
+    ensures reads { GivesInMemory (λ x. (x.0, x.1.now)) result (readers.item_at tokens.now) }
+    ensures shorter { IfOk result (λ x. length x.1.now < length tokens.now) }
+{
+    let (name, rest) = read_name(Part::InBlock, tokens)?;
+    let (_, rest) = read_mark(Mark::Assign, Part::InBlock, rest)?;
+    match rest {
+        [Token::Keyword(Keyword::Phi, _), rest @ ..] => read_phi(alloc, name, rest),
+        _ => read_statement(name, rest),
+    }
+}

@@ -1,0 +1,2 @@
+pub mod TypeWordsInOrder
+pub mod TypesExact
