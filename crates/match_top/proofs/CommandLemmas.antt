@@ -2,7 +2,7 @@
 use Rattle.std.proofs.Common.{◌≡◌, ◌≢◌, ℕ, zero, suc, List, [], ◌∷◌, ◌++◌, length, map, Option, Some, None, Bool, true, false, ◌+◌, ◌<◌, get_or, drop, drop-cons, subst, refl, sym, ap, ◌∙◌, arith}
 use Rattle.std.proofs.lemmas.List.{length-map}
 use Rattle.std.specs.List.{AllByRecursion}
-use Rattle.std.specs.Prelude.{All, IsTrue, option_map, slice_index_or, ℤ, cond}
+use Rattle.std.specs.Prelude.{All, IsTrue, option_map, ℤ, cond}
 use Rattle.pm_wide.specs.Types.{Ty, Word, in_range, word}
 use Rattle.gim_ast.specs.declared.function.Function.{Function}
 use Rattle.gim_ast.specs.declared.function.Decl.{Decl}
@@ -10,7 +10,7 @@ use Rattle.gim_ast.specs.Printing.{names_rise}
 use Rattle.gim_ast.specs.Readable.{IsValid}
 use Rattle.gim_printer.proofs.WellFormedLemmas.{names_rise_where_well_formed}
 use Rattle.gim_run.specs.Slots.{types_of_words}
-use Rattle.gim_run.specs.Machines.{AreArguments}
+use Rattle.gim_run.specs.Arguments.{AreArguments}
 use Rattle.gim_text.specs.Literals.{word_in}
 use Rattle.match_top.specs.Commands.{number_of_value, and_arguments, arguments_of, is_named, function_named}
 

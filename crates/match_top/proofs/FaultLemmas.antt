@@ -7,10 +7,17 @@ use Rattle.gim_ast.specs.declared.function.Function.{Function}
 use Rattle.gim_ast.specs.Readable.{IsValid, IsFirstUnreadable}
 use Rattle.gim_ssa.specs.Checking.{IsFaultOf}
 use Rattle.gim_ssa.specs.declared.fault.CheckFault.{CheckFault}
-use Rattle.gim_ssa.specs.declared.fault.CheckFault.TheVariants.{NotReadable, Memory}
+use Rattle.gim_ssa.specs.declared.fault.CheckFault.TheVariants.{NotReadable}
 use Rattle.match_top.specs.Answers.{Answer, refusal, no_memory}
-use Rattle.match_top.specs.GimpleFiles.{IsFirstInvalid, unreadable_text}
-use Rattle.match_top.specs.Stages.{EndsAtUnreadable, EndsAtInvalid}
+use Rattle.gim_text.specs.declared.fault.GimpleFault.{GimpleFault}
+use Rattle.gim_text.specs.declared.fault.GimpleKind.{GimpleKind}
+use Rattle.gim_text.specs.declared.fault.GimpleKind.TheVariants as kinds
+use Rattle.gim_reader.specs.Files as files
+use Rattle.gim_reader.specs.Files.{IsFile}
+use Rattle.match_top.specs.declared.answer.Stop.{Stop}
+use Rattle.match_top.specs.Program.{IsRefusedFile}
+use Rattle.match_top.specs.GimpleFiles.{by_fault, by_unreadable, fault_text, unreadable_text}
+use Rattle.match_top.specs.Stages.{EndsAtUnreadable, EndsAtInvalid, EndsAtFault, refused_with, stopped}
 
 pub ends_at : (f : Function) (fault : CheckFault) (block item name : ℕ) (answer : Answer) → fault ≡ NotReadable block item name → IsFaultOf f fault
     → (answer ≡ refusal 4 (unreadable_text f block item name)) ⊎ (answer ≡ no_memory) → (answer ≡ no_memory) ⊎ EndsAtUnreadable f answer
@@ -24,7 +31,10 @@ pub ends_first : (fs before after : List Function) (f : Function) (answer : Answ
     → (answer ≡ no_memory) ⊎ EndsAtUnreadable f answer → (answer ≡ no_memory) ⊎ EndsAtInvalid fs answer
 ends_first fs before after f answer in_order valid (inl e) = inl e
 ends_first fs before after f answer in_order valid (inr u) = inr (record {
-  function = f; block = u.block; item = u.item; name = u.name;
+  function = f;
+  block = u.block;
+  item = u.item;
+  name = u.name;
   first = record { before = before; after = after; in_order = in_order; valid_before = valid; unreadable = u.unreadable };
   answered = u.answered;
 })
@@ -57,11 +67,36 @@ well_formed_first fs rest f some is judged = (subst (AllByRecursion IsWellFormed
 pub next_valid : (fs rest : List Function) (f : Function) → 1 ≤ length rest → f ≡ get_or rest 0 f → Judged fs rest → IsValid f → Judged fs (take (length rest - 1) (drop 1 rest))
 next_valid fs rest f some is judged here =
     let after = take (length rest - 1) (drop 1 rest) in
-    let before = judged.1.0 in
-    ((subst (AllByRecursion IsWellFormed) (cut rest f some is) judged.0).1,
-    (before ++ f ∷ [], judged.1.1 ∙ ap (λ l. before ++ l) (cut rest f some is) ∙ moved before f after, one_more_valid before f judged.1.2 here))
+    let before = judged.1.0 in (
+      (subst (AllByRecursion IsWellFormed) (cut rest f some is) judged.0).1,
+      (before ++ f ∷ [], judged.1.1 ∙ ap (λ l. before ++ l) (cut rest f some is) ∙ moved before f after, one_more_valid before f judged.1.2 here),
+    )
 
 pub ends_at_first : (fs rest : List Function) (f : Function) (answer : Answer) → 1 ≤ length rest → f ≡ get_or rest 0 f → Judged fs rest
     → (answer ≡ no_memory) ⊎ EndsAtUnreadable f answer → (answer ≡ no_memory) ⊎ EndsAtInvalid fs answer
 ends_at_first fs rest f answer some is judged ends =
     ends_first fs judged.1.0 (take (length rest - 1) (drop 1 rest)) f answer (judged.1.1 ∙ ap (λ l. judged.1.0 ++ l) (cut rest f some is)) judged.1.2 ends
+
+-- ---- refused files
+
+pub refused_invalid : (source : List ℕ) (fs seen : List Function) (answer : Answer) → IsFile source fs → seen ≡ fs → (answer ≡ no_memory) ⊎ EndsAtInvalid seen answer
+    → IsRefusedFile source answer ⊎ (answer ≡ no_memory)
+refused_invalid source fs seen answer stands same (inl e) = inr e
+refused_invalid source fs seen answer stands same (inr u) = inl (record {
+  text = unreadable_text u.function u.block u.item u.name;
+  refused = by_unreadable seen u.function u.block u.item u.name (subst (IsFile source) (sym same) stands) u.first refl;
+  answered = u.answered;
+})
+
+pub refused_fault : (source : List ℕ) (fault : GimpleFault) (stop : Stop) → files.IsRefusal source fault → EndsAtFault fault.kind source fault stop
+    → IsRefusedFile source (stopped stop) ⊎ (stopped stop ≡ no_memory)
+refused_fault source fault stop why h = by fault.kind refl h why where
+  other : (kind : GimpleKind) → fault.kind ≡ kind → (kind ≡ kinds.Memory → ⊥) → refused_with (refusal 4 (fault_text source fault)) stop → files.IsRefusal source fault
+      → IsRefusedFile source (stopped stop) ⊎ (stopped stop ≡ no_memory)
+  other kind is apart (inr e) r = inr e
+  other kind is apart (inl e) (files.by_memory m) = absurd (apart (sym is ∙ m))
+  other kind is apart (inl e) (files.by_fault f) = inl (record { text = fault_text source fault; refused = by_fault fault f refl; answered = e })
+
+  by : (kind : GimpleKind) → fault.kind ≡ kind → EndsAtFault kind source fault stop → files.IsRefusal source fault → IsRefusedFile source (stopped stop) ⊎ (stopped stop ≡ no_memory)
+  by kinds.Memory is h r = inr h
+  by kind is h r = other kind is (λ e. cc) h r

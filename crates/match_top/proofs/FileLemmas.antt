@@ -1,17 +1,16 @@
 -- What the answer of a command on one GIMPLE file says of that file.
-use Rattle.std.proofs.Common.{◌≡◌, ◌⊎◌, ℕ, ◌≤◌, ◌<◌, ◌==◌, Bool, true, false, List, [], ◌∷◌, length, Option, Some, None, IsSomeAnd, refl, sym, ap, subst, ◌∙◌, inl, inr, arith}
+use Rattle.std.proofs.Common.{◌≡◌, ◌⊎◌, ℕ, ◌<◌, ◌==◌, Bool, true, false, List, [], ◌∷◌, length, Option, Some, None, IsSomeAnd, refl, sym, ap, subst, ◌∙◌, inl, inr, arith}
 use Rattle.std.specs.List.{list_any}
 use Rattle.std.proofs.lemmas.Bool.{false≢true}
 use Rattle.pm_wide.specs.Types.{Word}
 use Rattle.gim_ast.specs.declared.function.Function.{Function}
 use Rattle.gim_ast.specs.Runs.{Outcome, Returned, Undefined, Running, run_of}
 use Rattle.pm_io.specs.Causes.{Rose}
-use Rattle.match_top.specs.Answers.{Answer, Given, Bytes, Missing, TooLong, Unread, Unknown, Stage, Reached, Ended, OrMemory, Agrees, refusal, no_memory, functions_limit}
+use Rattle.match_top.specs.Answers.{Answer, Given, Bytes, Missing, TooLong, Unread, Unknown, Stage, Reached, Ended, OrMemory, Agrees, no_memory, functions_limit}
 use Rattle.match_top.specs.Commands.{checked, ran, ran_by, run_answer, outcome_answer, arguments_of, function_named}
-use Rattle.match_top.specs.GimpleFiles.{IsAccepted}
 use Rattle.match_top.specs.Given.{HasReason}
 use Rattle.match_top.specs.Program.{ReadsFunctions, AfterFile, WorksOn}
-use Rattle.match_top.specs.Statuses.{IsAcceptedFile, IsRefused, IsDone, SaysOfFile}
+use Rattle.match_top.specs.Statuses.{IsAcceptedFile, IsRefused, SaysOfFile}
 
 abbrev status_of : Answer → ℕ
 status_of answer = answer.status

@@ -4,7 +4,7 @@ ghost use Rattle.std.specs.List.{AllByRecursion};
 ghost use Rattle.gim_ast.specs.Printing.{assigned_text};
 ghost use Rattle.gim_ast.specs.Readable.{IsValid};
 ghost use Rattle.gim_ast.specs.Runs.{run_of};
-ghost use Rattle.gim_run.specs.Machines.{AreArguments};
+ghost use Rattle.gim_run.specs.Arguments.{AreArguments};
 ghost use Rattle.match_top.specs.Answers.{Given, OrMemory, refusal};
 ghost use Rattle.match_top.specs.Commands.{checked, number_of_value, arguments_of, function_named, is_named, outcome_answer, ran};
 ghost use Rattle.match_top.specs.Given.{FunctionsAgree, HasReason};
@@ -31,11 +31,7 @@ use std::alloc::Global;
 const FUNCTIONS_LIMIT: usize = 16_777_216;
 
 /// Prints the functions of a file, if it is accepted.
-pub fn check<I: Inputs>(
-    alloc: Global,
-    inputs: &mut I,
-    functions: &String,
-) -> Result<Answer, Stop>
+pub fn check<I: Inputs>(alloc: Global, inputs: &mut I, functions: &String) -> Result<Answer, Stop>
     ensures answer { (g : Given) × WorksOn (string_bytes functions.now) g checked (answered result)
         × HasReason (I.faults inputs.old) (I.faults inputs.new) g
         × IfSome (I.holds inputs.old) (λ held. FunctionsAgree held (I.left inputs.new) (string_bytes functions.now) g) }
@@ -205,11 +201,7 @@ fn undefined(alloc: Global, function: &Function, name: u32) -> Stop
 
 /// The line of a statement without a value.
 #[tactic(auto, using(crate::proofs::CommandLemmas::valid_rises))]
-fn undefined_line(
-    alloc: Global,
-    function: &Function,
-    name: u32,
-) -> Result<Items<u8>, OutOfMemory>
+fn undefined_line(alloc: Global, function: &Function, name: u32) -> Result<Items<u8>, OutOfMemory>
     requires { IsValid function.now }
     ensures { IfOk result (λ text. text ≡ line (codes "undefined " ++ function.now.name ++ codes " " ++ assigned_text function.now name)) }
 {

@@ -30,11 +30,7 @@ pub fn at_fault(alloc: Global, source: &[u8], fault: &GimpleFault) -> Stop
 }
 
 /// The line of a fault.
-fn fault_line(
-    alloc: Global,
-    source: &[u8],
-    fault: &GimpleFault,
-) -> Result<Items<u8>, OutOfMemory>
+fn fault_line(alloc: Global, source: &[u8], fault: &GimpleFault) -> Result<Items<u8>, OutOfMemory>
     requires { length source.now < 2 ^ 31 }
     ensures { IfOk result (λ text. text ≡ line (fault_text source.now fault.now)) }
 {

@@ -16,4 +16,6 @@ pub use program::run;
 pub use words::{Command, settings};
 
 #[cfg(test)]
+mod file_tests;
+#[cfg(test)]
 mod tests;
