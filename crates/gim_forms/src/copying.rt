@@ -36,10 +36,7 @@ fn copied_rows(alloc: Global, rows: &[NameRow]) -> Result<Items<NameRow>, OutOfM
     Ok(copied)
 }
 
-fn copied_args(
-    alloc: Global,
-    args: &[(u32, Operand)],
-) -> Result<Items<(u32, Operand)>, OutOfMemory>
+fn copied_args(alloc: Global, args: &[(u32, Operand)]) -> Result<Items<(u32, Operand)>, OutOfMemory>
     ensures { IfOk result (λ copied. copied ≡ args.now) }
 {
     let mut copied = Items::new(alloc);

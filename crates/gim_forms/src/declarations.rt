@@ -24,7 +24,9 @@ fn any_anonymous(decls: &[Decl]) -> bool
 fn has_ident(decls: &[Decl], ident: &[u8]) -> bool
     ensures { result ≡ list_any (has_ident ident.now) decls.now }
 {
-    decls.iter().any(|decl| same_text(ident, decl.ident.bytes()))
+    decls
+        .iter()
+        .any(|decl| same_text(ident, decl.ident.bytes()))
 }
 
 /// Whether none has the identifier of a later one, nor one of those told.

@@ -138,7 +138,8 @@ pub(crate) fn is_anonymous_of(ident: &[u8], version: u32) -> bool
     let mut buffer = Buffer::new();
     match ident {
         [] => false,
-        [first, digits @ ..] => *first == b'_' && same_text(digits, buffer.format(version).as_bytes()),
+        [first, digits @ ..] => *first == b'_'
+            && same_text(digits, buffer.format(version).as_bytes()),
     }
 }
 
@@ -149,6 +150,7 @@ pub(crate) fn anonymous_is(version: u32, ident: &[u8]) -> bool
     let mut buffer = Buffer::new();
     match ident {
         [] => false,
-        [first, digits @ ..] => b'_' == *first && same_text(buffer.format(version).as_bytes(), digits),
+        [first, digits @ ..] => b'_' == *first
+            && same_text(buffer.format(version).as_bytes(), digits),
     }
 }

@@ -10,6 +10,7 @@ mod bounds;
 mod copying;
 mod declarations;
 mod identifiers;
+pub mod laws;
 mod operands;
 mod rows;
 mod uses;
@@ -36,3 +37,6 @@ fn parts_hold(function: &Function) -> bool
         && operands::operands_hold(function)
         && bounds::bounds_hold(function)
 }
+
+#[cfg(test)]
+mod tests;

@@ -65,7 +65,9 @@ fn operand_holds(function: &Function, operand: &Operand) -> bool
 fn are_operands(function: &Function, operands: &[Operand]) -> bool
     ensures { result ≡ list_all (operand_holds function.now) operands.now }
 {
-    operands.iter().all(|operand| operand_holds(function, operand))
+    operands
+        .iter()
+        .all(|operand| operand_holds(function, operand))
 }
 
 fn args_hold(function: &Function, args: &[(u32, Operand)]) -> bool
@@ -77,7 +79,8 @@ fn args_hold(function: &Function, args: &[(u32, Operand)]) -> bool
 fn phi_operands_hold(function: &Function, phis: &[Phi]) -> bool
     ensures { result ≡ list_all (phi_operands_hold function.now) phis.now }
 {
-    phis.iter().all(|phi| args_hold(function, phi.args.as_slice()))
+    phis.iter()
+        .all(|phi| args_hold(function, phi.args.as_slice()))
 }
 
 fn rhs_operands_hold(function: &Function, rhs: &Rhs) -> bool
@@ -92,7 +95,9 @@ fn rhs_operands_hold(function: &Function, rhs: &Rhs) -> bool
 fn stmt_operands_hold(function: &Function, stmts: &[Stmt]) -> bool
     ensures { result ≡ list_all (stmt_operands_hold function.now) stmts.now }
 {
-    stmts.iter().all(|stmt| rhs_operands_hold(function, &stmt.rhs))
+    stmts
+        .iter()
+        .all(|stmt| rhs_operands_hold(function, &stmt.rhs))
 }
 
 fn end_operands_hold(function: &Function, end: &End) -> bool
@@ -118,7 +123,9 @@ fn block_operands_hold(function: &Function, block: &Block) -> bool
 fn all_operands_hold(function: &Function, blocks: &[Block]) -> bool
     ensures { result ≡ list_all (block_operands_hold function.now) blocks.now }
 {
-    blocks.iter().all(|block| block_operands_hold(function, block))
+    blocks
+        .iter()
+        .all(|block| block_operands_hold(function, block))
 }
 
 /// Whether an operation on these operands has a result of that type.

@@ -61,7 +61,9 @@ fn is_declaration_of(decl: &Decl, version: u32, ty: IntType) -> bool
 fn declares_anonymous(decls: &[Decl], version: u32, ty: IntType) -> bool
     ensures { result ≡ declares_as (anonymous version) ty decls.now }
 {
-    decls.iter().any(|decl| is_declaration_of(decl, version, ty))
+    decls
+        .iter()
+        .any(|decl| is_declaration_of(decl, version, ty))
 }
 
 fn local_base_holds(function: &Function, row: &NameRow) -> bool
@@ -75,8 +77,7 @@ fn base_holds(function: &Function, row: &NameRow) -> bool
     ensures { result ≡ base_holds function.now row.now }
 {
     if is_empty(row.base.bytes()) {
-        return !row.initial
-            && declares_anonymous(function.decls.as_slice(), row.version, row.ty);
+        return !row.initial && declares_anonymous(function.decls.as_slice(), row.version, row.ty);
     }
     declares_as(function.params.as_slice(), row.base.bytes(), row.ty)
         || local_base_holds(function, row)
