@@ -1,0 +1,12 @@
+pub mod Facts
+pub mod Left
+pub mod LimitsSound
+pub mod NamesSound
+pub mod Operands
+pub mod Prints
+pub mod Reading
+pub mod RoundTrip
+pub mod ShapeSound
+pub mod Tokens
+pub mod TypesSound
+pub mod Writes

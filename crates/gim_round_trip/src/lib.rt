@@ -1,0 +1,8 @@
+//! What is printed is read again as the same functions.
+//!
+//! The law stands over the text of functions (`gim_ast`) and what the bytes of a file stand for (`gim_reader`). `proofs/` goes from the
+//! text of a function to its tokens and the tree that they spell (`proofs/Reading`), and from a tree that writes a function to that
+//! function and to the rules that it keeps.
+#![tactic(auto)]
+
+pub mod laws;
