@@ -4,6 +4,7 @@ pub mod LimitsSound
 pub mod NamesSound
 pub mod Operands
 pub mod Prints
+pub mod ReadFiles
 pub mod Reading
 pub mod Rising
 pub mod RoundTrip

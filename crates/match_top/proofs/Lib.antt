@@ -6,6 +6,7 @@ pub mod FirstFormLemmas
 pub mod GivenLemmas
 pub mod HeldLemmas
 pub mod NameLemmas
+pub mod OneAnswer
 pub mod RowLemmas
 pub mod StatusLemmas
 pub mod ValueLemmas

@@ -5,6 +5,7 @@ mod answer;
 mod file_commands;
 mod gimple_file;
 mod gimple_lines;
+pub mod laws;
 mod program;
 mod report;
 mod simplify;
