@@ -1,12 +1,16 @@
 pub mod Facts
 pub mod Left
 pub mod LimitsSound
+pub mod Marks
 pub mod NamesSound
+pub mod Numbers
 pub mod Operands
 pub mod Prints
 pub mod Reading
 pub mod RoundTrip
 pub mod ShapeSound
+pub mod Signs
 pub mod Tokens
 pub mod TypesSound
+pub mod Words
 pub mod Writes
