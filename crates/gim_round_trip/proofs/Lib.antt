@@ -7,6 +7,7 @@ pub mod Numbers
 pub mod Operands
 pub mod Prints
 pub mod Reading
+pub mod Rising
 pub mod RoundTrip
 pub mod ShapeSound
 pub mod Signs
