@@ -99,7 +99,7 @@ pub spaced : (bs : List ℕ) (m : Mark) → IsMarkText bs m → IsSpacedMark bs 
 spaced bs m h = record { apart = λ l b rest space. h.apart l (b ∷ rest); stands = λ at b rest space. h.stands at (b ∷ rest) }
 
 other_than_space : (a b : ℕ) → is_space a ≡ false → is_space b ≡ true → (a == b) ≡ false
-other_than_space a b no yes_space = ne_eqb a b (λ e. false≢true (sym no ∙ ap is_space e ∙ yes_space))
+other_than_space a b other space = ne_eqb a b (λ e. false≢true (sym other ∙ ap is_space e ∙ space))
 
 -- one byte that with white space is no mark of two
 before_space : (a : ℕ) (m : Mark) → is_mark_byte a ≡ true → short_mark a ≡ Some m → ((b : ℕ) → is_space b ≡ true → long_mark a b ≡ None) → IsSpacedMark (a ∷ []) m

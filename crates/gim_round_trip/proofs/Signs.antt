@@ -103,7 +103,7 @@ sign_between : (source : List ℕ) (meaning : Token → Option Code) (code : Cod
     → Prints source any_end (λ (u : Unit {0}). Meant meaning code) (λ u. Unit {0}) (codes " " ++ sign_text code ++ codes " ")
 sign_between source meaning code h means =
     let sign = sign_text code in
-    blanks_before (codes " ") refl (blanks_after (codes " ") refl (λ rest. refl)
+    blanks_after (codes " ") refl (λ rest. refl) (blanks_before (codes " ") refl
         (spaced_mark_prints source sign (sign_mark code) (λ at. tt) (sign_spaced code h) (λ at. (tokens.Mark (sign_mark code) (place at (length sign)), means (place at (length sign)), refl)) (λ at e. tt)))
 
 pub infix_sign_prints : (source : List ℕ) (code : Code) → is_infix code ≡ true → Prints source any_end (λ (u : Unit {0}). Meant infix_code code) (λ u. Unit {0}) (codes " " ++ sign_text code ++ codes " ")
