@@ -2,6 +2,7 @@ pub mod Facts
 pub mod Left
 pub mod LimitsSound
 pub mod Marks
+pub mod NameTexts
 pub mod NamesSound
 pub mod Numbers
 pub mod Operands
@@ -12,6 +13,7 @@ pub mod RoundTrip
 pub mod ShapeSound
 pub mod Signs
 pub mod Tokens
+pub mod TypeTexts
 pub mod TypesSound
 pub mod Words
 pub mod Writes
