@@ -1,5 +1,5 @@
 -- The printed texts of constants are read as these.
-use Rattle.std.proofs.Common.{◌≡◌, ℕ, suc, ◌<◌, ◌≤◌, ◌^◌, Bool, true, false, cond, Option, Some, None, List, [], ◌∷◌, ◌++◌, length, codes, lit≤, refl, sym, ap, ◌∙◌, subst, arith}
+use Rattle.std.proofs.Common.{◌≡◌, ℕ, suc, ◌<◌, ◌≤◌, ◌^◌, Bool, true, false, cond, Some, None, List, [], ◌∷◌, ◌++◌, length, codes, lit≤, refl, sym, ap, ◌∙◌, subst, arith}
 use Rattle.std.specs.Prelude.{ℤ, pos, negsuc, neg_ℤ, nat_lt}
 use Rattle.std.specs.Fmt.{decimal, signed_decimal}
 use Rattle.std.specs.Int.RustNames.{unsigned_abs}
@@ -8,7 +8,7 @@ use Rattle.std.specs.Option.{option_map_or}
 use Rattle.std.proofs.lemmas.Bool.{and_parts, ltb-true}
 use Rattle.std.proofs.lemmas.List.{append_assoc, append-nil}
 use Rattle.pm_ops.specs.declared.code.Code.TheVariants as operations
-use Rattle.pm_wide.specs.Types.{Word, value, value_of, word, in_range, same_type, int_type, unsigned_int_type, long_type, unsigned_long_type}
+use Rattle.pm_wide.specs.Types.{Word, value, word, in_range, same_type, int_type, unsigned_int_type, long_type, unsigned_long_type}
 use Rattle.pm_wide.specs.declared.operand.Operand.TheVariants as operands
 use Rattle.pm_wide.proofs.Results.{same_type_is}
 use Rattle.pm_wide.proofs.Values.{width_positive, width_small}
@@ -36,11 +36,10 @@ use Rattle.gim_text.specs.Texts.{text_of, leading_digits}
 use Rattle.grammar.specs.Spelling.{Meant}
 use Rattle.gim_lexer.specs.Numbers.{is_suffix_letter, suffix_kind}
 use Rattle.gim_lexer.specs.Tokens.{place}
-use Rattle.gim_types.specs.Grammar.{SpellsType}
 use Rattle.gim_marks.specs.Readers.{plain_number}
-use Rattle.gim_statements.specs.Grammar.{◌▸◌, AMark, AKeyword, BeginsAt, Signed, SpellsConstant, SpellsOperand, MayStandUnder}
+use Rattle.gim_statements.specs.Grammar.{◌▸◌, AKeyword, BeginsAt, Signed, SpellsConstant, SpellsOperand, MayStandUnder}
 use Rattle.gim_statements.specs.Words.{literal_number}
-use Rattle.gim_round_trip.proofs.Prints.{Prints, any_end, word_end, joined, seen, blanks_before}
+use Rattle.gim_round_trip.proofs.Prints.{Prints, word_end, joined, seen, blanks_before}
 use Rattle.gim_round_trip.proofs.Writes.{WritesOperand}
 use Rattle.gim_round_trip.proofs.Numbers.{NumberText, number_digits, decimal_writes, digits_in_front, written_number_prints}
 use Rattle.gim_round_trip.proofs.Tokens.{keyword_there, mark_there, a_mark_prints}
@@ -100,6 +99,7 @@ signed_prints source (negsuc n) suffix kind M small h means =
 
 -- ---- words
 
+-- a word of its type: its value is one of the type, and the word of that value is the word
 record IsHeld (w : Word) : Type 0 where
   type : is_type_of w.ty ≡ true
   range : in_range w.ty (value w) ≡ true

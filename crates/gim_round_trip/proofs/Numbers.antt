@@ -1,5 +1,5 @@
 -- Texts of one number: digits and a suffix.
-use Rattle.std.proofs.Common.{◌≡◌, ℕ, zero, suc, ◌+◌, ◌*◌, ◌-◌, ◌/◌, ◌%◌, ◌^◌, ◌<◌, ◌≤◌, Bool, true, false, cond, Some, None, List, [], ◌∷◌, ◌++◌, length, take, drop, refl, sym, ap, ◌∙◌, subst, arith}
+use Rattle.std.proofs.Common.{◌≡◌, ℕ, ◌+◌, ◌*◌, ◌-◌, ◌/◌, ◌%◌, ◌^◌, ◌<◌, ◌≤◌, Bool, true, false, Some, None, List, [], ◌∷◌, ◌++◌, length, take, drop, refl, sym, ap, ◌∙◌, arith}
 use Rattle.std.specs.Prelude.{◌==◌, ◌&&◌, not}
 use Rattle.std.specs.List.{prefix_len, list_all}
 use Rattle.std.specs.Fmt.{decimal}
@@ -33,20 +33,22 @@ number_digits (b ∷ c ∷ bs) h =
     and_from (is_digit b) (list_all is_digit (c ∷ bs)) (and_parts (is_digit b) (not (b == 48)) p.0).0 p.1
 
 -- one digit more behind a number that isn't 0
-longer_number : (bs : List ℕ) (d : ℕ) → is_number_text bs ≡ true → 0 < number_after 0 bs → is_digit d ≡ true → is_number_text (bs ++ d ∷ []) ≡ true
-longer_number [] d h some digit = absurd (false≢true h)
-longer_number (b ∷ []) d h some digit =
+still_number_text : (bs : List ℕ) (d : ℕ) → is_number_text bs ≡ true → 0 < number_after 0 bs → is_digit d ≡ true → is_number_text (bs ++ d ∷ []) ≡ true
+still_number_text [] d h some digit = absurd (false≢true h)
+still_number_text (b ∷ []) d h some digit =
     let other : (b == 48) ≡ false = ne_eqb b 48 (λ e. absurd (omega arith)) in
     and_from (is_digit b && not (b == 48)) (is_digit d && true) (and_from (is_digit b) (not (b == 48)) h (not_from_false (b == 48) other)) (and_from (is_digit d) true digit refl)
-longer_number (b ∷ c ∷ bs) d h some digit =
+still_number_text (b ∷ c ∷ bs) d h some digit =
     let p = and_parts (is_digit b && not (b == 48)) (list_all is_digit (c ∷ bs)) h in
     and_from (is_digit b && not (b == 48)) (list_all is_digit (c ∷ (bs ++ d ∷ []))) p.0
         (list_all-append is_digit (c ∷ bs) (d ∷ []) ∙ and_from (list_all is_digit (c ∷ bs)) (is_digit d && true) p.1 (and_from (is_digit d) true digit refl))
 
-number_longer : (m : ℕ) (bs : List ℕ) (d : ℕ) → number_after m (bs ++ d ∷ []) ≡ 10 * number_after m bs + (d - 48)
-number_longer m [] d = refl
-number_longer m (b ∷ bs) d = number_longer (10 * m + (b - 48)) bs d
+-- the number of one digit more
+number_with_digit : (m : ℕ) (bs : List ℕ) (d : ℕ) → number_after m (bs ++ d ∷ []) ≡ 10 * number_after m bs + (d - 48)
+number_with_digit m [] d = refl
+number_with_digit m (b ∷ bs) d = number_with_digit (10 * m + (b - 48)) bs d
 
+-- a digit's byte
 last_digit : (n : ℕ) → n < 10 → is_digit (48 + n) ≡ true
 last_digit n h = grind (arith, nat_tests)
 
@@ -63,8 +65,8 @@ digit_more n ds long w =
     let small : n % 10 < 10 = mod-lt n (omega arith) in
     let parts = div-add-mod' n 10 in
     record {
-      text = longer_number ds (48 + n % 10) w.text (omega (arith, w.number)) (last_digit (n % 10) small);
-      number = number_longer 0 ds (48 + n % 10) ∙ omega (arith, w.number);
+      text = still_number_text ds (48 + n % 10) w.text (omega (arith, w.number)) (last_digit (n % 10) small);
+      number = number_with_digit 0 ds (48 + n % 10) ∙ omega (arith, w.number);
     }
 
 pub decimal_writes : (n : ℕ) → n < 10 ^ 64 → WritesNumber n (decimal n)
@@ -105,6 +107,7 @@ number_begins : (at b : ℕ) (text : List ℕ) → is_digit b ≡ true → token
 unfolding token_of_text
 number_begins at b text h = rw (digit_is_no_letter b h, h) refl
 
+-- the digits, and behind them the suffix
 number_there : (at n m : ℕ) (text digits suffix rest : List ℕ) → prefix_len is_digit text ≡ n → take n text ≡ digits → drop n text ≡ rest
     → prefix_len is_suffix_letter rest ≡ m → take m rest ≡ suffix → number_at at text ≡ tokens.Number (number_kind digits suffix) (place at (n + m))
 unfolding number_at

@@ -1,5 +1,5 @@
 -- The printed texts of types, names and operands are read as these.
-use Rattle.std.proofs.Common.{◌≡◌, ℕ, Bool, true, false, cond, Option, Some, None, List, [], ◌∷◌, ◌++◌, codes, refl, sym, ap, ◌∙◌, subst}
+use Rattle.std.proofs.Common.{◌≡◌, ℕ, Bool, true, false, cond, Some, List, [], ◌++◌, codes, refl, sym, subst}
 use Rattle.std.proofs.lemmas.List.{append-nil}
 use Rattle.pm_ops.specs.declared.code.Code.TheVariants as operations
 use Rattle.pm_wide.specs.Types.{Ty}

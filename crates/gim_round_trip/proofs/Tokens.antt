@@ -1,5 +1,5 @@
 -- Texts of one token: words, numbers and marks.
-use Rattle.std.proofs.Common.{◌≡◌, ℕ, ◌^◌, ◌<◌, Bool, true, false, Option, Some, None, List, [], ◌∷◌, ◌++◌, length, drop, codes, lit≤, refl, ap, ◌∙◌, subst, arith}
+use Rattle.std.proofs.Common.{◌≡◌, ℕ, ◌^◌, ◌<◌, Bool, true, false, Some, List, [], ◌∷◌, ◌++◌, length, drop, codes, refl, ap, ◌∙◌, subst}
 use Rattle.std.specs.Fmt.{decimal}
 use Rattle.std.specs.List.{list_all}
 use Rattle.std.proofs.lemmas.Bool.{and_parts, and_from, or_right, false≢true}
@@ -28,11 +28,11 @@ use Rattle.gim_syntax.specs.Grammar.{IsSsa}
 use Rattle.gim_round_trip.proofs.Prints.{Prints, any_end, word_end, blank_end, seen}
 use Rattle.gim_round_trip.proofs.Writes.{NamesBlock}
 use Rattle.gim_round_trip.proofs.Facts.{number_text}
-use Rattle.gim_round_trip.proofs.Words.{word_prints, UnreservedWord, identifier_is_word, identifier_means}
+use Rattle.gim_round_trip.proofs.Words.{word_prints, identifier_is_word, identifier_means}
 use Rattle.gim_round_trip.proofs.Numbers.{number_digits, written_number_prints}
 use Rattle.gim_round_trip.proofs.Marks.{IsMarkText, one_byte, mark_text_prints, assign_mark, semicolon_mark, spaced_mark_prints}
 use Rattle.gim_round_trip.proofs.Signs.{infix_sign_prints, comparison_sign_prints}
-pub use Rattle.gim_round_trip.proofs.Signs.{is_infix}
+pub use Rattle.gim_round_trip.proofs.Signs.{is_infix, comparison_is_infix}
 
 -- ---- words
 

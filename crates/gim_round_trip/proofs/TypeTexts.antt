@@ -1,9 +1,9 @@
 -- The printed texts of the eleven types are read as these.
-use Rattle.std.proofs.Common.{◌≡◌, ℕ, Bool, true, false, Option, Some, List, [], ◌∷◌, ◌++◌, map, length, codes, lit<, Contains, refl, sym, ap, ◌∙◌, subst}
+use Rattle.std.proofs.Common.{◌≡◌, ℕ, Bool, true, false, Some, List, [], ◌∷◌, ◌++◌, map, length, codes, lit<, Contains, refl, sym, ap, ◌∙◌, subst}
 use Rattle.std.specs.Prelude.{◌==◌, ◌&&◌, ◌||◌}
 use Rattle.std.proofs.lemmas.Bool.{eqb-true, false≢true}
 use Rattle.std.proofs.lemmas.List.{map-append}
-use Rattle.pm_wide.specs.Types.{Ty, is_type}
+use Rattle.pm_wide.specs.Types.{Ty}
 use Rattle.gim_ast.specs.Identifiers.{is_word_text}
 use Rattle.gim_ast.specs.Printing.{type_text}
 use Rattle.gim_ast.specs.WellFormed.{is_type_of}
@@ -69,22 +69,23 @@ as_type t form is_form one = seen one (λ u. tt) (λ u w is words. record { writ
 each_type : (P : Ty → Type 0) → P (record { width = 1; unsigned = true }) → ((u : Bool) → P (record { width = 8; unsigned = u })) → ((u : Bool) → P (record { width = 16; unsigned = u }))
     → ((u : Bool) → P (record { width = 32; unsigned = u })) → ((u : Bool) → P (record { width = 64; unsigned = u })) → ((u : Bool) → P (record { width = 128; unsigned = u }))
     → (t : Ty) → is_type_of t ≡ true → P t
-each_type P bool eight sixteen half long wide t h =
+each_type P bool char short int long wide t h =
     by (t.width == 8) (t.width == 16) (t.width == 32) (t.width == 64) (t.width == 128) (t.width == 1) t.unsigned
         (eqb-true t.width 8) (eqb-true t.width 16) (eqb-true t.width 32) (eqb-true t.width 64) (eqb-true t.width 128) (eqb-true t.width 1) h where
       at : (n : ℕ) (u : Bool) → t.width ≡ n → P (record { width = n; unsigned = u }) → P (record { width = t.width; unsigned = u })
       at n u e p = subst (λ m. P (record { width = m; unsigned = u })) (sym e) p
       by : (a b c d e f u : Bool) → (a ≡ true → t.width ≡ 8) → (b ≡ true → t.width ≡ 16) → (c ≡ true → t.width ≡ 32) → (d ≡ true → t.width ≡ 64) → (e ≡ true → t.width ≡ 128) → (f ≡ true → t.width ≡ 1)
           → ((a || b || c || d || e) || (f && u)) ≡ true → P (record { width = t.width; unsigned = u })
-      by true b c d e f u p q r s v w h = at 8 u (p refl) (eight u)
-      by false true c d e f u p q r s v w h = at 16 u (q refl) (sixteen u)
-      by false false true d e f u p q r s v w h = at 32 u (r refl) (half u)
+      by true b c d e f u p q r s v w h = at 8 u (p refl) (char u)
+      by false true c d e f u p q r s v w h = at 16 u (q refl) (short u)
+      by false false true d e f u p q r s v w h = at 32 u (r refl) (int u)
       by false false false true e f u p q r s v w h = at 64 u (s refl) (long u)
       by false false false false true f u p q r s v w h = at 128 u (v refl) (wide u)
       by false false false false false true true p q r s v w h = at 1 true (w refl) bool
       by false false false false false true false p q r s v w h = absurd (false≢true h)
       by false false false false false false u p q r s v w h = absurd (false≢true h)
 
+-- the text of this type is read as it
 TypePrints : List ℕ → Ty → Type 0
 TypePrints source t = Prints source word_end (λ (u : Unit {0}). SpellsType t) (λ u. Unit {0}) (type_text t)
 

@@ -1,6 +1,6 @@
 -- Texts of one word, and where runs of bytes end.
-use Rattle.std.proofs.Common.{◌≡◌, ℕ, suc, Bool, true, false, cond, Option, Some, None, List, [], ◌∷◌, ◌++◌, map, length, take, codes, refl, sym, ap, ◌∙◌, arith, one-add}
-use Rattle.std.specs.Prelude.{option_map, find, ◌==◌, ◌||◌, ◌&&◌, not}
+use Rattle.std.proofs.Common.{◌≡◌, ℕ, suc, Bool, true, false, cond, Some, None, List, [], ◌∷◌, ◌++◌, map, length, take, codes, refl, sym, ap, ◌∙◌, arith, one-add}
+use Rattle.std.specs.Prelude.{option_map, find, ◌==◌, ◌||◌, not}
 use Rattle.std.specs.List.{prefix_len, list_all, list_any}
 use Rattle.std.specs.Str.{bytes_eq}
 use Rattle.std.proofs.lemmas.Bool.{and_parts, and_from, or_parts, not-true, false≢true}
@@ -18,7 +18,7 @@ use Rattle.gim_text.specs.Texts.{text_of}
 use Rattle.gim_lexer.specs.Separators.{is_space, separator_length}
 use Rattle.gim_lexer.specs.Tables.{beside}
 use Rattle.gim_lexer.specs.Tokens.{place, word_at, token_of_text}
-use Rattle.gim_lexer.specs.Words.{type_words, keyword_table, type_word_of, keyword_of, plain_word, word_from, word_token}
+use Rattle.gim_lexer.specs.Words.{type_words, keyword_table, type_word_of, keyword_of, plain_word, word_token}
 use Rattle.gim_lexer.proofs.Fronts.{word_place}
 use Rattle.gim_round_trip.proofs.Prints.{Prints, Ends, word_end, token_prints}
 
@@ -97,11 +97,11 @@ none_beside {X} word (row ∷ table) h = by (bytes_eq row.0 word) (none_beside w
   by true later h = absurd (false≢true (sym h))
   by false later h = later h
 
--- what a word that isn't reserved is no spelling of
-pub record IsFree (word : List ℕ) : Type 0 where
-  pub no_type : type_word_of word ≡ None
-  pub no_keyword : keyword_of word ≡ None
-  pub no_block : is_block_word word ≡ false
+-- a word that is no word of a type, no keyword and no name of a block
+record IsFree (word : List ℕ) : Type 0 where
+  no_type : type_word_of word ≡ None
+  no_keyword : keyword_of word ≡ None
+  no_block : is_block_word word ≡ false
 
 free_word : (word : List ℕ) → is_reserved word ≡ false → IsFree word
 free_word word h =
