@@ -1,7 +1,11 @@
+pub mod Constants
 pub mod Facts
 pub mod Left
 pub mod LimitsSound
+pub mod Marks
+pub mod NameTexts
 pub mod NamesSound
+pub mod Numbers
 pub mod Operands
 pub mod Prints
 pub mod ReadFiles
@@ -9,6 +13,9 @@ pub mod Reading
 pub mod Rising
 pub mod RoundTrip
 pub mod ShapeSound
+pub mod Signs
 pub mod Tokens
+pub mod TypeTexts
 pub mod TypesSound
+pub mod Words
 pub mod Writes
