@@ -2,11 +2,14 @@ pub mod Facts
 pub mod Left
 pub mod LimitsSound
 pub mod NamesSound
+pub mod Never
 pub mod Operands
 pub mod Prints
 pub mod Reading
 pub mod RoundTrip
+pub mod Said
 pub mod ShapeSound
 pub mod Tokens
 pub mod TypesSound
 pub mod Writes
+pub mod Zips
