@@ -1,6 +1,7 @@
 pub mod Facts
 pub mod Left
 pub mod LimitsSound
+pub mod Mentioned
 pub mod NamesSound
 pub mod Never
 pub mod Operands
