@@ -7,6 +7,7 @@ pub mod Never
 pub mod Operands
 pub mod Prints
 pub mod Reading
+pub mod Redefined
 pub mod RoundTrip
 pub mod Said
 pub mod ShapeSound
