@@ -13,5 +13,6 @@ pub mod Said
 pub mod ShapeSound
 pub mod Tokens
 pub mod TypesSound
+pub mod Undeclared
 pub mod Writes
 pub mod Zips
