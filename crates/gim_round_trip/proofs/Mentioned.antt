@@ -1,7 +1,7 @@
 -- What each mention of a printed function is, by that function.
-use Rattle.std.proofs.Common.{◌≡◌, ℕ, ◌<◌, Bool, true, false, cond, Option, Some, None, List, [], ◌∷◌, ◌++◌, map, refl, sym, ap, subst, ◌∙◌, arith, inl, inr}
+use Rattle.std.proofs.Common.{◌≡◌, ℕ, Bool, true, false, cond, Some, List, [], ◌∷◌, ◌++◌, map, refl, sym, ap, subst, ◌∙◌, inl, inr}
 use Rattle.std.specs.Prelude.{◌&&◌, ◌||◌, not, is_some}
-use Rattle.std.specs.List.{AllZip, list_all}
+use Rattle.std.specs.List.{list_all}
 use Rattle.std.specs.Fmt.{decimal}
 use Rattle.std.proofs.lemmas.Bool.{and_parts, eq-eqb, false≢true}
 use Rattle.pm_wide.specs.declared.operand.Operand.{Operand}
@@ -13,7 +13,7 @@ use Rattle.gim_ast.specs.declared.function.NameRow.{NameRow}
 use Rattle.gim_ast.specs.Functions.{operands_of, assigned, assigned_in, phi_name, stmt_name, is_name, row_of}
 use Rattle.gim_ast.specs.Printing.{assigned_text, is_initial}
 use Rattle.gim_ast.specs.Removal.{is_used}
-use Rattle.gim_ast.specs.WellFormed.{IsWellFormed, same_text, ident_of, is_assigned, base_holds, row_stands, phi_fits, stmt_fits}
+use Rattle.gim_ast.specs.WellFormed.{IsWellFormed, same_text, ident_of, is_assigned, base_holds, phi_fits, stmt_fits}
 use Rattle.gim_text.specs.declared.token.Span.{Span}
 use Rattle.gim_text.specs.declared.tree.FunctionText.{FunctionText}
 use Rattle.gim_text.specs.declared.tree.OperandText.{OperandText}
@@ -40,7 +40,6 @@ pub record IsNameAt (source : List ℕ) (f : Function) (at : Span) (row : NameRo
   pub named : text_of source at ≡ assigned_text f row.version
   pub parts : name_parts (text_of source at) ≡ Some (row.base, decimal row.version)
   pub base : base_holds f row ≡ true
-  pub stands : row_stands f row ≡ true
 
 name_at : (source : List ℕ) (f : Function) (at : Span) (x : ℕ) (row : NameRow) → NameFacts f x row → text_of source at ≡ assigned_text f x → IsNameAt source f at row
 name_at source f at x row facts text =
@@ -51,7 +50,6 @@ name_at source f at x row facts text =
       named = text ∙ ap (assigned_text f) version;
       parts = ap name_parts text ∙ facts.parts ∙ ap (λ n. Some (row.base, decimal n)) version;
       base = facts.base;
-      stands = facts.stands;
     }
 
 -- an identifier of a declaration, a name that the function has, or a constant with its word

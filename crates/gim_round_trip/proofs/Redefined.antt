@@ -1,9 +1,9 @@
 -- No mention of a printed function repeats or contradicts one before it.
-use Rattle.std.proofs.Common.{◌≡◌, ℕ, ◌<◌, ◌^◌, Bool, true, false, cond, Option, Some, None, List, [], ◌∷◌, ◌++◌, map, refl, sym, ap, subst, ◌∙◌, arith, inl, inr}
-use Rattle.std.specs.Prelude.{◌==◌, ◌&&◌, ◌||◌, not, nat_lt}
-use Rattle.std.specs.List.{flat_map, list_any}
+use Rattle.std.proofs.Common.{◌≡◌, ℕ, ◌<◌, Bool, true, false, cond, Option, Some, None, List, [], ◌∷◌, ◌++◌, map, refl, sym, ap, subst, ◌∙◌, arith, inl, inr}
+use Rattle.std.specs.Prelude.{◌==◌, ◌&&◌, ◌||◌, not}
+use Rattle.std.specs.List.{list_any}
 use Rattle.std.specs.Fmt.{decimal}
-use Rattle.std.proofs.lemmas.Bool.{and_parts, and_from, not-true, eqb-true, eq-eqb, ltb-true, or_cases, false≢true}
+use Rattle.std.proofs.lemmas.Bool.{and_parts, and_from, not-true, eq-eqb, false≢true}
 use Rattle.std.proofs.lemmas.Fmt.{decimal_injective}
 use Rattle.gim_ast.specs.declared.function.Function.{Function}
 use Rattle.gim_ast.specs.declared.function.Block.{Block}
@@ -20,15 +20,14 @@ use Rattle.gim_names.specs.declared.mention.Mention.{Mention}
 use Rattle.gim_names.specs.declared.mention.Mention.TheVariants.{Param, Local, Block as BlockAt, Assigned, Used, UsedDefault, Constant}
 use Rattle.gim_names.specs.Mentions.{mentions_of}
 use Rattle.gim_names.specs.Parts.{with_some, all_said, version_in, turned, anonymous_parts, declared_text, block_number, assigned_text as text_assigned, assigned_version, plain_version, default_version, version_base, base_default}
-use Rattle.gim_names.specs.Rules.{stands, differs, is_declared_again, is_assigned_again, has_other_base, has_other_mark, has_other_default, is_repeated, is_marked_otherwise, is_contradicted, is_redefined}
-use Rattle.gim_making.specs.Names.{version_of}
-use Rattle.gim_making.proofs.Membership.{Has, all_has, any_has, any_from_has, none_from_has, has_map, from_map, has_flat}
+use Rattle.gim_names.specs.Rules.{stands, is_declared_again, is_assigned_again, has_other_base, has_other_mark, has_other_default, is_repeated, is_marked_otherwise, is_contradicted, is_redefined}
+use Rattle.gim_making.proofs.Membership.{Has, all_has, any_has, any_from_has, none_from_has, from_map, has_flat}
 use Rattle.gim_making.proofs.NameRowLemmas.{one_of_version}
 use Rattle.gim_making.proofs.PartLemmas.{some_is, same_text_is, text_itself, bare_is_anonymous}
 use Rattle.gim_making.proofs.PlaceLemmas.{from_said}
 use Rattle.gim_round_trip.specs.ReadBack.{IsWithinLimits}
 use Rattle.gim_round_trip.proofs.Facts.{number_text, of_names, of_blocks, row_found, name_facts, number_is_small}
-use Rattle.gim_round_trip.proofs.Mentioned.{IsNameAt, MentionIs, mention_is, assigned_row}
+use Rattle.gim_round_trip.proofs.Mentioned.{MentionIs, mention_is, assigned_row}
 use Rattle.gim_round_trip.proofs.Never.{NeverBy, never_either, never_twice, never_both, never_differs}
 use Rattle.gim_round_trip.proofs.Said.{declared_said, numbers_said, assigned_said}
 use Rattle.gim_round_trip.proofs.Writes.{Writes}
@@ -115,8 +114,9 @@ anonymous_by None p e = absurd cc
 anonymous_by (Some ([], version)) p e = (version, refl, cc)
 anonymous_by (Some (b ∷ base, version)) p e = absurd cc
 
-name_pair : (source : List ℕ) (f : Function) (row : NameRow) (o : Option (List ℕ × List ℕ)) (p : List ℕ × List ℕ) → Has f.names row → o ≡ Some (row.base, decimal row.version) → turned o ≡ Some p → IsPair f p
-name_pair source f row o p there parts e = let said : Some (decimal row.version, row.base) ≡ Some p = sym (ap turned parts) ∙ e in (row, there, cc)
+-- what a name says of its row
+name_pair : (f : Function) (row : NameRow) (o : Option (List ℕ × List ℕ)) (p : List ℕ × List ℕ) → Has f.names row → o ≡ Some (row.base, decimal row.version) → turned o ≡ Some p → IsPair f p
+name_pair f row o p there parts e = let said : Some (decimal row.version, row.base) ≡ Some p = sym (ap turned parts) ∙ e in (row, there, cc)
 
 name_version : (f : Function) (initial : Bool) (row : NameRow) (o : Option (List ℕ × List ℕ)) (x : List ℕ) → Has f.names row → row.initial ≡ initial → o ≡ Some (row.base, decimal row.version) → version_in o ≡ Some x → IsVersion f initial x
 name_version f initial row o x there marked parts e = let said : Some (decimal row.version) ≡ Some x = sym (ap version_in parts) ∙ e in (row, there, marked, cc)
@@ -180,9 +180,9 @@ module _ (source : List ℕ) (f : Function) (well : IsWellFormed f) (limits : Is
   pair_is (Param at) p is e = absurd cc
   pair_is (Local at) p is e = anonymous_pair (text_of source at) p is e
   pair_is (BlockAt at) p is e = absurd cc
-  pair_is (Assigned at) p is e = name_pair source f is.0 (name_parts (text_of source at)) p is.1.in_names is.1.parts e
-  pair_is (Used at) p is e = name_pair source f is.0 (name_parts (text_of source at)) p is.1.in_names is.1.parts e
-  pair_is (UsedDefault at) p is e = name_pair source f is.0 (name_parts (text_of source at)) p is.1.in_names is.1.parts e
+  pair_is (Assigned at) p is e = name_pair f is.0 (name_parts (text_of source at)) p is.1.in_names is.1.parts e
+  pair_is (Used at) p is e = name_pair f is.0 (name_parts (text_of source at)) p is.1.in_names is.1.parts e
+  pair_is (UsedDefault at) p is e = name_pair f is.0 (name_parts (text_of source at)) p is.1.in_names is.1.parts e
   pair_is (Constant at fits) p is e = absurd cc
 
   -- a version is that of a default definition or of none

@@ -6,7 +6,6 @@ use Rattle.std.proofs.lemmas.Grind.{flat_map-append}
 use Rattle.std.proofs.lemmas.List.{append-nil}
 use Rattle.std.proofs.lemmas.List.Concat.{flat_map_single}
 use Rattle.std.proofs.lemmas.Simd.{map-map}
-use Rattle.pm_ops.specs.declared.code.Code.TheVariants as codes
 use Rattle.pm_wide.specs.declared.operand.Operand.{Operand}
 use Rattle.pm_wide.specs.Types.{Ty}
 use Rattle.gim_ast.specs.declared.function.Function.{Function}
@@ -21,7 +20,6 @@ use Rattle.gim_ast.specs.declared.function.End.TheVariants as ends
 use Rattle.gim_ast.specs.Functions.{operands_of, operands_of_block, operands_of_phi, operands_of_stmt, operands_of_rhs, operands_of_end, assigned, assigned_in, phi_name, stmt_name}
 use Rattle.gim_ast.specs.Printing.{assigned_text, type_of_name}
 use Rattle.gim_ast.specs.WellFormed.{ident_of, numbers_of}
-use Rattle.gim_text.specs.declared.token.Span.{Span}
 use Rattle.gim_text.specs.declared.tree.FunctionText.{FunctionText}
 use Rattle.gim_text.specs.declared.tree.DeclText.{DeclText}
 use Rattle.gim_text.specs.declared.tree.BlockText.{BlockText}
@@ -36,7 +34,7 @@ use Rattle.gim_text.specs.declared.tree.EndText.{EndText}
 use Rattle.gim_text.specs.declared.tree.EndText.TheVariants.{Goto, If, Return}
 use Rattle.gim_text.specs.Texts.{text_of}
 use Rattle.gim_names.specs.declared.mention.Mention.{Mention}
-use Rattle.gim_names.specs.declared.mention.Mention.TheVariants.{Block as BlockAt, Assigned}
+use Rattle.gim_names.specs.declared.mention.Mention.TheVariants.{Block as BlockAt}
 use Rattle.gim_names.specs.Mentions.{mentions_of, mentions_of_block, mentions_of_item, mentions_of_end, mentions_of_right, mention_of_operand, mention_of_arg, mention_of_param, mention_of_local}
 use Rattle.gim_names.specs.Parts.{with_some, all_said, param_text, local_text, declared_text, block_number, assigned_text as text_assigned}
 use Rattle.gim_names.specs.Kept.{ident_text, number_text}

@@ -19,9 +19,9 @@ use Rattle.gim_names.specs.declared.mention.Mention.{Mention}
 use Rattle.gim_names.specs.declared.mention.Mention.TheVariants.{Param, Local, Block, Assigned, Used, UsedDefault, Constant}
 use Rattle.gim_names.specs.Mentions.{mentions_of}
 use Rattle.gim_names.specs.Parts.{all_said, param_text, local_text, assigned_text as text_assigned}
-use Rattle.gim_names.specs.Rules.{is_bare, lacks_base, lacks_param, is_unassigned, is_undeclared, is_wide}
+use Rattle.gim_names.specs.Rules.{lacks_base, lacks_param, is_unassigned, is_undeclared, is_wide}
 use Rattle.gim_names.proofs.Keeping.{bare_is_anonymous}
-use Rattle.gim_making.proofs.Membership.{Has, has_map, any_has, any_from_has, none_has}
+use Rattle.gim_making.proofs.Membership.{has_map, any_has, any_from_has, none_has}
 use Rattle.gim_making.proofs.PartLemmas.{same_text_is, text_itself}
 use Rattle.gim_round_trip.specs.ReadBack.{IsWithinLimits}
 use Rattle.gim_round_trip.proofs.Mentioned.{IsNameAt, MentionIs, mention_is}
