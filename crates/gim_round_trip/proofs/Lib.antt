@@ -8,6 +8,7 @@ pub mod Operands
 pub mod Prints
 pub mod Reading
 pub mod Redefined
+pub mod Rising
 pub mod RoundTrip
 pub mod Said
 pub mod ShapeSound
