@@ -1,8 +1,11 @@
 pub mod Facts
+pub mod KnownNames
 pub mod Left
 pub mod LimitsSound
+pub mod Made
 pub mod NamesSound
 pub mod Operands
+pub mod PairedLists
 pub mod Prints
 pub mod Reading
 pub mod RoundTrip
