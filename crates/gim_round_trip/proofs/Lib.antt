@@ -3,6 +3,7 @@ pub mod KnownNames
 pub mod Left
 pub mod LimitsSound
 pub mod Made
+pub mod NamePlaces
 pub mod NamesSound
 pub mod Operands
 pub mod PairedLists
