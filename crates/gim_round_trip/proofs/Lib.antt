@@ -5,6 +5,7 @@ pub mod LimitsSound
 pub mod Made
 pub mod NamePlaces
 pub mod NamesSound
+pub mod NamesStand
 pub mod Operands
 pub mod PairedLists
 pub mod Prints
