@@ -1,7 +1,6 @@
 -- A function is what the tree that writes it stands for.
-use Rattle.std.proofs.Common.{◌≡◌, ℕ, ◌<◌, true, Option, Some, None, List, [], ◌∷◌, ◌++◌, map, refl, sym, ap, ◌∙◌, inl, inr}
+use Rattle.std.proofs.Common.{◌≡◌, ℕ, ◌<◌, true, Option, Some, List, [], ◌∷◌, ◌++◌, map, refl, sym, ap, ◌∙◌, inl, inr}
 use Rattle.std.specs.List.{AllZip, flat_map}
-use Rattle.std.specs.Fmt.{decimal}
 use Rattle.std.proofs.lemmas.Bool.{and_parts}
 use Rattle.std.proofs.lemmas.Grind.{flat_map-append}
 use Rattle.std.proofs.lemmas.List.{append-nil}
@@ -18,7 +17,7 @@ use Rattle.gim_ast.specs.declared.function.Rhs.{Rhs}
 use Rattle.gim_ast.specs.declared.function.Rhs.TheVariants as sides
 use Rattle.gim_ast.specs.declared.function.End.{End}
 use Rattle.gim_ast.specs.declared.function.End.TheVariants as ends
-use Rattle.gim_ast.specs.Functions.{operands_of, operands_of_block, operands_of_phi, operands_of_stmt, operands_of_rhs, operands_of_end, targets_of, row_of}
+use Rattle.gim_ast.specs.Functions.{operands_of, operands_of_block, operands_of_phi, operands_of_stmt, operands_of_rhs, operands_of_end, targets_of}
 use Rattle.gim_ast.specs.Printing.{type_of_name}
 use Rattle.gim_ast.specs.WellFormed.{phi_fits, stmt_fits, block_fits}
 use Rattle.gim_text.specs.declared.token.Span.{Span}
@@ -33,7 +32,7 @@ use Rattle.gim_text.specs.declared.tree.ItemText.TheVariants as items
 use Rattle.gim_text.specs.declared.tree.RightForm.{RightForm}
 use Rattle.gim_text.specs.declared.tree.RightForm.TheVariants.{Copy, Unary, Cast, Binary, Choice}
 use Rattle.gim_text.specs.Texts.{text_of}
-use Rattle.gim_making.specs.Declarations.{declarations_of, number_of, version_of_name}
+use Rattle.gim_making.specs.Declarations.{declarations_of, number_of}
 use Rattle.gim_making.specs.Standing.{made}
 use Rattle.gim_making.specs.Trees.{operand_of, rhs_of, block_number, arg_of, phi_of, stmt_of, end_of, block_of, decl_of}
 use Rattle.gim_making.proofs.Membership.{Has, has_left, has_right, has_map, has_flat, all_has}
@@ -111,7 +110,7 @@ args_are source tree f w block in_function phi in_block args written =
     map_is (WritesArg source f) (arg_of (declarations_of source tree)) args phi.args written (λ arg x there here.
     arg_is source tree f w arg x here (phi_block_is_small f w.well w.within block in_function phi in_block x there) (phi_operand f block phi x in_function in_block there))
 
--- the row of a name that a phi or a statement assigns
+-- each phi and each statement of a block that fits
 pub phi_fits_here : (f : Function) (block : Block) (phi : Phi) → block_fits f block ≡ true → Has block.phis phi → phi_fits f phi ≡ true
 phi_fits_here f block phi fits there = all_has (phi_fits f) block.phis (and_parts _ _ (and_parts _ _ fits).0).0 phi there
 

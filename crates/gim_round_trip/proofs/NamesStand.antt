@@ -1,5 +1,5 @@
 -- The names of a function are those that stand in the tree that writes it.
-use Rattle.std.proofs.Common.{◌≡◌, ℕ, ◌<◌, Bool, true, false, cond, Option, Some, None, List, [], ◌∷◌, ◌++◌, map, refl, sym, ap, subst, ◌∙◌, arith, inl, inr}
+use Rattle.std.proofs.Common.{◌≡◌, ℕ, Bool, true, false, cond, Option, Some, None, List, [], ◌∷◌, ◌++◌, map, refl, sym, ap, subst, ◌∙◌, arith, inl, inr}
 use Rattle.std.specs.Prelude.{◌==◌, ◌&&◌, ◌||◌, not}
 use Rattle.std.specs.List.{flat_map, list_any}
 use Rattle.std.specs.Fmt.{decimal}
@@ -8,13 +8,10 @@ use Rattle.pm_wide.specs.Types.{Ty}
 use Rattle.gim_ast.specs.declared.function.Function.{Function}
 use Rattle.gim_ast.specs.declared.function.Decl.{Decl}
 use Rattle.gim_ast.specs.declared.function.NameRow.{NameRow}
-use Rattle.gim_ast.specs.Functions.{row_of}
 use Rattle.gim_ast.specs.Identifiers.{is_number_text, is_anonymous, anonymous}
-use Rattle.gim_ast.specs.Printing.{assigned_text}
 use Rattle.gim_ast.specs.Removal.{is_used}
-use Rattle.gim_ast.specs.WellFormed.{same_text, rises, declares_as, base_holds, row_stands, is_assigned}
+use Rattle.gim_ast.specs.WellFormed.{same_text, rises, declares_as, base_holds, is_assigned}
 use Rattle.gim_text.specs.declared.token.Span.{Span}
-use Rattle.gim_text.specs.declared.tree.DeclText.{DeclText}
 use Rattle.gim_text.specs.declared.tree.FunctionText.{FunctionText}
 use Rattle.gim_text.specs.Texts.{text_of}
 use Rattle.gim_making.specs.declared.places.NamePlace.{NamePlace}
