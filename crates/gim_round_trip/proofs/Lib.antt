@@ -1,8 +1,11 @@
+pub mod Decimals
 pub mod Facts
 pub mod Left
 pub mod LimitsSound
 pub mod NamesSound
+pub mod NoFault
 pub mod Operands
+pub mod PlaceByPlace
 pub mod Prints
 pub mod Reading
 pub mod RoundTrip
