@@ -1,4 +1,5 @@
 pub mod Decimals
+pub mod Different
 pub mod Facts
 pub mod Left
 pub mod LimitsSound
@@ -6,6 +7,7 @@ pub mod NamesSound
 pub mod NoFault
 pub mod Operands
 pub mod PlaceByPlace
+pub mod PlacesFit
 pub mod Prints
 pub mod Reading
 pub mod RoundTrip
