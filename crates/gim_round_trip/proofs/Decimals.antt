@@ -1,14 +1,16 @@
 -- Tests on small numbers are the same tests on their decimals.
-use Rattle.std.proofs.Common.{◌≡◌, ℕ, ◌^◌, ◌<◌, Bool, List, [], ◌∷◌, map, refl, ap, ◌∙◌, arith, inl, inr}
+use Rattle.std.proofs.Common.{◌≡◌, ℕ, ◌^◌, ◌<◌, Bool, List, [], ◌∷◌, map, refl, sym, ap, ◌∙◌, arith, inl, inr}
 use Rattle.std.specs.Prelude.{◌==◌, ◌&&◌, ◌||◌, not}
-use Rattle.std.specs.List.{list_any, list_all}
+use Rattle.std.specs.List.{AllZip, list_any, list_all}
 use Rattle.std.specs.Fmt.{decimal}
+use Rattle.std.proofs.lemmas.Simd.{map-map}
 use Rattle.gim_ast.specs.WellFormed as ast
 use Rattle.gim_ast.specs.WellFormed.{same_text, all_distinct}
 use Rattle.gim_shape.specs.Blocks as shape
 use Rattle.gim_shape.proofs.TableLemmas.{same_text_symm}
 use Rattle.gim_making.proofs.Membership.{Has}
 use Rattle.gim_round_trip.proofs.Facts.{same_decimal}
+use Rattle.gim_round_trip.proofs.PlaceByPlace.{same_images}
 
 -- numbers up to the greatest version or block number
 abbrev pub AreSmallNumbers : List ℕ → Type 0
@@ -41,3 +43,7 @@ all_among_decimals wanted [] small_wanted small = refl
 all_among_decimals wanted (n ∷ ns) small_wanted small =
     ap (λ b. b && list_all (shape.is_among (map decimal wanted)) (map decimal ns)) (among_decimals wanted n small_wanted (small n (inl refl)))
     ∙ ap (λ b. ast.is_among n wanted && b) (all_among_decimals wanted ns small_wanted (λ m there. small m (inr there)))
+
+-- texts that are the decimals of the numbers of their partners
+pub images_are_decimals : {X Y : Type 0} (R : X → Y → Type 0) (g : X → List ℕ) (h : Y → ℕ) → ((x : X) (y : Y) → R x y → g x ≡ decimal (h y)) → (xs : List X) (ys : List Y) → AllZip R xs ys → map g xs ≡ map decimal (map h ys)
+images_are_decimals R g h same xs ys zip = same_images R g (λ y. decimal (h y)) same xs ys zip ∙ sym (map-map decimal h ys)

@@ -1,6 +1,7 @@
 pub mod Decimals
 pub mod Different
 pub mod Facts
+pub mod Filtered
 pub mod Left
 pub mod LimitsSound
 pub mod NamesSound
@@ -9,6 +10,7 @@ pub mod Operands
 pub mod PlaceByPlace
 pub mod PlacesFit
 pub mod Prints
+pub mod ReadFiles
 pub mod Reading
 pub mod RoundTrip
 pub mod ShapeSound

@@ -18,13 +18,11 @@ owner R (x ∷ xs) (y ∷ ys) zip z (inl e) = (x, inl refl, subst (λ w. R x w) 
 owner R (x ∷ xs) (y ∷ ys) zip z (inr h) = let r = owner R xs ys zip.1 z h in (r.0, inr r.1, r.2)
 
 -- images of partners that are one
-pub same_images : {X Y Z W : Type 0} (R : X → Y → Type 0) (g : X → Z) (k : W → Z) (h : Y → W) → ((x : X) (y : Y) → R x y → g x ≡ k (h y)) → (xs : List X) (ys : List Y) → AllZip R xs ys
-    → map g xs ≡ map k (map h ys)
-same_images R g k h same [] [] zip = refl
-same_images R g k h same [] (y ∷ ys) zip = absurd zip
-same_images R g k h same (x ∷ xs) [] zip = absurd zip
-same_images R g k h same (x ∷ xs) (y ∷ ys) zip =
-    ap (λ z. z ∷ map g xs) (same x y zip.0) ∙ ap (λ zs. k (h y) ∷ zs) (same_images R g k h same xs ys zip.1)
+pub same_images : {X Y Z : Type 0} (R : X → Y → Type 0) (g : X → Z) (h : Y → Z) → ((x : X) (y : Y) → R x y → g x ≡ h y) → (xs : List X) (ys : List Y) → AllZip R xs ys → map g xs ≡ map h ys
+same_images R g h same [] [] zip = refl
+same_images R g h same [] (y ∷ ys) zip = absurd zip
+same_images R g h same (x ∷ xs) [] zip = absurd zip
+same_images R g h same (x ∷ xs) (y ∷ ys) zip = ap (λ z. z ∷ map g xs) (same x y zip.0) ∙ ap (λ zs. h y ∷ zs) (same_images R g h same xs ys zip.1)
 
 -- what holds of each element from a list
 pub all_of : {X : Type 0} (P : X → Type 0) (xs : List X) → ((x : X) → Has xs x → P x) → AllByRecursion P xs

@@ -33,9 +33,9 @@ use Rattle.gim_shape.specs.Shape.{end_fault, jump_fault, faults_among, body_faul
 use Rattle.gim_making.proofs.Membership.{Has, from_map, has_flat, all_has, all_from_has}
 use Rattle.gim_making.proofs.SmallLemmas.{each_has}
 use Rattle.gim_round_trip.specs.ReadBack.{IsWithinLimits}
-use Rattle.gim_round_trip.proofs.Decimals.{AreSmallNumbers, among_decimals, distinct_decimals, all_among_decimals}
+use Rattle.gim_round_trip.proofs.Decimals.{AreSmallNumbers, among_decimals, distinct_decimals, all_among_decimals, images_are_decimals}
 use Rattle.gim_round_trip.proofs.Facts.{number_is_small, predecessor_is_small, target_is_small, phi_block_is_small}
-use Rattle.gim_round_trip.proofs.PlaceByPlace.{partner, same_images}
+use Rattle.gim_round_trip.proofs.PlaceByPlace.{partner}
 use Rattle.gim_round_trip.proofs.NoFault.{none_joined, none_of_each}
 use Rattle.gim_round_trip.proofs.Writes.{WritesArg, WritesPhi, WritesStmt, WritesEnd, WritesBlock, Writes}
 
@@ -78,7 +78,7 @@ phi_blocks_small f well limits block there phi here n among =
 block_jumps_free : (source : List ℕ) (f : Function) (trees : List BlockText) → AllZip (WritesBlock source f) trees f.blocks → IsWellFormed f → IsWithinLimits f → (tree : BlockText) (block : Block) → Has f.blocks block → WritesBlock source f tree block
     → first_fault (map (jump_fault source (shape.is_among (shape.numbers_of source trees))) (jumps_of tree)) ≡ None
 block_jumps_free source f trees written well limits tree block there writes =
-    let texts : shape.numbers_of source trees ≡ map decimal (numbers_of f) = same_images (WritesBlock source f) (number_of source) decimal (λ (b : Block). b.number) (λ t b w. w.number) trees f.blocks written in
+    let texts : shape.numbers_of source trees ≡ map decimal (numbers_of f) = images_are_decimals (WritesBlock source f) (number_of source) (λ (b : Block). b.number) (λ t b w. w.number) trees f.blocks written in
     let named : map (named_at source) (jumps_of tree) ≡ map decimal (targets_of block.end) = jumps_named source f tree.end block.end writes.end in
     let all_lead = (and_parts _ _ (and_parts _ _ well.blocks).0).1 in
     let lead : list_all (λ n. ast.is_among n (numbers_of f)) (targets_of block.end) ≡ true =
@@ -135,7 +135,7 @@ phi_args_fit source f from n args phi here written holds small_args small_here =
     let outer = and_parts _ _ holds in
     let both = and_parts _ _ outer.0 in
     let inner = and_parts _ _ both.0 in
-    let named : named_by_args source args ≡ map decimal mine = same_images (WritesArg source f) (λ (arg : ArgText). named_at source arg.from) decimal (λ (x : ℕ × Operand). x.0) (λ a x w. w.0) args phi.args written in
+    let named : named_by_args source args ≡ map decimal mine = images_are_decimals (WritesArg source f) (λ (arg : ArgText). named_at source arg.from) (λ (x : ℕ × Operand). x.0) (λ a x w. w.0) args phi.args written in
     let once : is_each_once (map decimal wanted) (map decimal mine) ≡ true =
     and_from (all_distinct same_text (map decimal mine) && list_all (shape.is_among (map decimal wanted)) (map decimal mine)) (list_all (shape.is_among (map decimal mine)) (map decimal wanted))
     (and_from (all_distinct same_text (map decimal mine)) (list_all (shape.is_among (map decimal wanted)) (map decimal mine)) (distinct_decimals mine small_args ∙ inner.0) (all_among_decimals wanted mine small_here small_args ∙ inner.1))
