@@ -1,5 +1,5 @@
 -- No limit is passed by trees that write well-formed functions within the limits.
-use Rattle.std.proofs.Common.{◌≡◌, ℕ, suc, ◌+◌, ◌<◌, ◌≤◌, Bool, true, false, Option, Some, None, List, [], ◌∷◌, map, length, lit≤, refl, sym, ap, subst, ◌∙◌, arith, inl, inr}
+use Rattle.std.proofs.Common.{◌≡◌, ℕ, suc, ◌+◌, ◌<◌, ◌≤◌, Bool, true, false, Some, None, List, [], ◌∷◌, map, length, lit≤, refl, sym, ap, subst, ◌∙◌, arith, inl, inr}
 use Rattle.std.specs.Prelude.{◌==◌, ◌&&◌, ◌||◌, not, is_none}
 use Rattle.std.specs.List.{AllByRecursion, AllZip, list_all}
 use Rattle.std.specs.Option.{option_map_or}
@@ -18,7 +18,6 @@ use Rattle.gim_text.specs.Texts.{text_of}
 use Rattle.gim_shape.specs.declared.places.Place.{Place}
 use Rattle.gim_shape.specs.declared.places.Place.TheVariants.{Name, Block, Jump}
 use Rattle.gim_shape.specs.Blocks.{is_among}
-use Rattle.gim_shape.specs.Limits as limit
 use Rattle.gim_shape.specs.Limits.{is_above, blocks_among, version_at, versions_of, different, is_name_too_many, is_too_large, place_faults, function_limit_faults, limits_fault}
 use Rattle.gim_shape.specs.Places.{places_of}
 use Rattle.gim_making.specs.Names.{version_of}
@@ -30,7 +29,7 @@ use Rattle.gim_round_trip.proofs.Different.{few_different}
 use Rattle.gim_round_trip.proofs.Filtered.{from_filter}
 use Rattle.gim_round_trip.proofs.NoFault.{none_of_each}
 use Rattle.gim_round_trip.proofs.PlaceByPlace.{partner}
-use Rattle.gim_round_trip.proofs.PlacesFit.{Fits, PlacesFit, places_fit}
+use Rattle.gim_round_trip.proofs.PlacesFit.{Fits, places_fit}
 use Rattle.gim_round_trip.proofs.Writes.{WritesBlock, Writes}
 
 abbrev EachFits : List ℕ → Function → List Place → Type 0

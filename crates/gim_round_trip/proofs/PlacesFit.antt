@@ -1,10 +1,10 @@
 -- What stands at the places of names and of numbers of blocks in a tree that writes a function.
-use Rattle.std.proofs.Common.{◌≡◌, ℕ, suc, ◌+◌, ◌^◌, ◌<◌, Bool, true, false, cond, Option, Some, None, option_map, List, [], ◌∷◌, ◌++◌, map, length, refl, sym, ap, subst, ◌∙◌, arith, inl, inr}
+use Rattle.std.proofs.Common.{◌≡◌, ℕ, suc, ◌+◌, ◌<◌, Bool, true, false, cond, Option, Some, option_map, List, [], ◌∷◌, ◌++◌, map, length, refl, sym, ap, subst, ◌∙◌, arith, inl, inr}
 use Rattle.std.specs.Prelude.{◌&&◌, ◌||◌, not}
-use Rattle.std.specs.List.{AllZip, flat_map, list_any, list_all}
+use Rattle.std.specs.List.{AllZip, flat_map, list_any}
 use Rattle.std.specs.Option.{option_map_or}
 use Rattle.std.specs.Fmt.{decimal}
-use Rattle.std.proofs.lemmas.Bool.{and_parts, false≢true}
+use Rattle.std.proofs.lemmas.Bool.{and_parts}
 use Rattle.pm_wide.specs.Types.{Ty}
 use Rattle.pm_wide.specs.declared.operand.Operand.{Operand}
 use Rattle.pm_wide.specs.declared.operand.Operand.TheVariants as operands
@@ -21,9 +21,8 @@ use Rattle.gim_ast.specs.declared.function.End.TheVariants as ends
 use Rattle.gim_ast.specs.Functions.{operands_of, operands_of_block, operands_of_phi, operands_of_stmt, operands_of_rhs, operands_of_end, targets_of, row_of}
 use Rattle.gim_ast.specs.Identifiers.{is_anonymous, anonymous}
 use Rattle.gim_ast.specs.Printing.{assigned_text}
-use Rattle.gim_ast.specs.WellFormed.{IsWellFormed, same_text, block_fits, phi_fits, stmt_fits, end_fits}
+use Rattle.gim_ast.specs.WellFormed.{IsWellFormed, same_text, block_fits, phi_fits, stmt_fits}
 use Rattle.gim_text.specs.declared.token.Span.{Span}
-use Rattle.gim_text.specs.declared.tree.ArgText.{ArgText}
 use Rattle.gim_text.specs.declared.tree.BlockText.{BlockText}
 use Rattle.gim_text.specs.declared.tree.DeclText.{DeclText}
 use Rattle.gim_text.specs.declared.tree.EndText.{EndText}
@@ -44,7 +43,7 @@ use Rattle.gim_shape.specs.Limits as limit
 use Rattle.gim_shape.specs.Limits.{blocks_among}
 use Rattle.gim_shape.specs.Places.{decl_places, operand_places, right_places, arg_places, item_places, end_places, block_places, places_of}
 use Rattle.gim_making.specs.Names.{version_of}
-use Rattle.gim_making.proofs.Membership.{Has, has_left, has_right, has_either, has_map, has_flat, from_flat, all_has, any_has}
+use Rattle.gim_making.proofs.Membership.{Has, has_left, has_right, has_either, has_map, has_flat, all_has, any_has}
 use Rattle.gim_making.proofs.PartLemmas.{same_text_is}
 use Rattle.gim_round_trip.specs.ReadBack.{IsWithinLimits}
 use Rattle.gim_round_trip.proofs.Facts.{of_names, number_text, name_facts, row_found, each_operand_holds, operand_row, each_block_fits, phi_row, stmt_row, number_is_small, target_is_small, phi_block_is_small}

@@ -1,7 +1,7 @@
 -- What is read from a file meets the condition of the law, but for the length of its text.
-use Rattle.std.proofs.Common.{◌≡◌, ℕ, ◌+◌, ◌^◌, ◌<◌, ◌≤◌, Bool, true, false, Option, Some, None, option_map, List, [], ◌∷◌, map, length, lit≤, refl, sym, ap, subst, ◌∙◌, arith, inl, inr}
-use Rattle.std.specs.Prelude.{◌==◌, ◌&&◌, not, nat_lt}
-use Rattle.std.specs.List.{AllByRecursion, AllZip, list_any, list_all}
+use Rattle.std.proofs.Common.{◌≡◌, ℕ, ◌<◌, ◌≤◌, true, Option, Some, None, option_map, List, [], ◌∷◌, map, length, lit≤, refl, sym, ap, subst, ◌∙◌, arith}
+use Rattle.std.specs.Prelude.{◌==◌, not, nat_lt}
+use Rattle.std.specs.List.{list_any, list_all}
 use Rattle.std.specs.Option.{unwrap_or}
 use Rattle.std.specs.Fmt.{decimal}
 use Rattle.std.proofs.lemmas.Bool.{and_parts, and_from, lt-ltb, ltb-true, eqb-true}
@@ -11,11 +11,10 @@ use Rattle.gim_ast.specs.declared.function.Block.{Block}
 use Rattle.gim_ast.specs.declared.function.NameRow.{NameRow}
 use Rattle.gim_ast.specs.Numbers.{number_below}
 use Rattle.gim_ast.specs.Printing.{text}
-use Rattle.gim_ast.specs.WellFormed.{IsWellFormed, same_text, all_distinct, rises}
+use Rattle.gim_ast.specs.WellFormed.{same_text, all_distinct, rises}
 use Rattle.gim_ast.proofs.NumberLemmas.{number_below_is}
 use Rattle.gim_text.specs.declared.fault.GimpleFault.{GimpleFault}
 use Rattle.gim_text.specs.declared.token.Token.{Token}
-use Rattle.gim_text.specs.declared.tree.BlockText.{BlockText}
 use Rattle.gim_text.specs.declared.tree.FunctionText.{FunctionText}
 use Rattle.gim_text.specs.Faults.{or_fault}
 use Rattle.gim_lexer.specs.Cuts.{AreTokens}
@@ -42,7 +41,7 @@ use Rattle.gim_making.specs.Types.{types_fault}
 use Rattle.gim_making.proofs.Membership.{Has, has_contains, from_map, all_has, all_from_has, any_from_has, none_from_has}
 use Rattle.gim_making.proofs.NameRowLemmas.{name_is_row}
 use Rattle.gim_making.proofs.PartLemmas.{text_itself}
-use Rattle.gim_making.proofs.PlaceLemmas.{AreSmall, row_place}
+use Rattle.gim_making.proofs.PlaceLemmas.{row_place}
 use Rattle.gim_making.proofs.SmallLemmas.{each_has, name_is_place, are_small}
 use Rattle.gim_making.proofs.Sound.{sound_files}
 use Rattle.gim_reader.specs.Files.{file_limit, rules_fault, IsFile}

@@ -16,7 +16,6 @@ use Rattle.gim_ast.specs.Functions.{targets_of}
 use Rattle.gim_ast.specs.WellFormed as ast
 use Rattle.gim_ast.specs.WellFormed.{IsWellFormed, same_text, all_distinct, is_empty, entry_has_no_phi, phi_blocks, phi_holds, numbers_of}
 use Rattle.gim_text.specs.declared.token.Span.{Span}
-use Rattle.gim_text.specs.declared.fault.GimpleFault.{GimpleFault}
 use Rattle.gim_text.specs.declared.tree.ArgText.{ArgText}
 use Rattle.gim_text.specs.declared.tree.BlockText.{BlockText}
 use Rattle.gim_text.specs.declared.tree.EndText.{EndText}
