@@ -12,6 +12,7 @@ pub mod PlacesFit
 pub mod Prints
 pub mod ReadFiles
 pub mod Reading
+pub mod Rising
 pub mod RoundTrip
 pub mod ShapeSound
 pub mod Tokens
