@@ -1,5 +1,8 @@
 pub mod Constants
+pub mod Decimals
+pub mod Different
 pub mod Facts
+pub mod Filtered
 pub mod KnownNames
 pub mod Left
 pub mod LimitsSound
@@ -11,9 +14,12 @@ pub mod NameTexts
 pub mod NamesSound
 pub mod NamesStand
 pub mod Never
+pub mod NoFault
 pub mod Numbers
 pub mod Operands
 pub mod PairedLists
+pub mod PlaceByPlace
+pub mod PlacesFit
 pub mod Prints
 pub mod ReadFiles
 pub mod Reading
