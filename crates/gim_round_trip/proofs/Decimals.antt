@@ -10,7 +10,7 @@ use Rattle.gim_shape.specs.Blocks as shape
 use Rattle.gim_shape.proofs.TableLemmas.{same_text_symm}
 use Rattle.gim_making.proofs.Membership.{Has}
 use Rattle.gim_round_trip.proofs.Facts.{same_decimal}
-use Rattle.gim_round_trip.proofs.PlaceByPlace.{same_images}
+use Rattle.gim_round_trip.proofs.PairedLists.{same_images}
 
 -- numbers up to the greatest version or block number
 abbrev pub AreSmallNumbers : List ℕ → Type 0
@@ -46,4 +46,4 @@ all_among_decimals wanted (n ∷ ns) small_wanted small =
 
 -- texts that are the decimals of the numbers of their partners
 pub images_are_decimals : {X Y : Type 0} (R : X → Y → Type 0) (g : X → List ℕ) (h : Y → ℕ) → ((x : X) (y : Y) → R x y → g x ≡ decimal (h y)) → (xs : List X) (ys : List Y) → AllZip R xs ys → map g xs ≡ map decimal (map h ys)
-images_are_decimals R g h same xs ys zip = same_images R g (λ y. decimal (h y)) same xs ys zip ∙ sym (map-map decimal h ys)
+images_are_decimals R g h same xs ys zip = same_images R g (λ y. decimal (h y)) xs ys same zip ∙ sym (map-map decimal h ys)

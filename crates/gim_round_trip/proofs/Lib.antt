@@ -18,7 +18,6 @@ pub mod NoFault
 pub mod Numbers
 pub mod Operands
 pub mod PairedLists
-pub mod PlaceByPlace
 pub mod PlacesFit
 pub mod Prints
 pub mod ReadFiles
@@ -35,4 +34,3 @@ pub mod TypesSound
 pub mod Undeclared
 pub mod Words
 pub mod Writes
-pub mod Zips

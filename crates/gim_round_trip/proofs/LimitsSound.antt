@@ -28,7 +28,7 @@ use Rattle.gim_round_trip.specs.ReadBack.{IsWithinLimits}
 use Rattle.gim_round_trip.proofs.Different.{few_different}
 use Rattle.gim_round_trip.proofs.Filtered.{from_filter}
 use Rattle.gim_round_trip.proofs.NoFault.{none_of_each}
-use Rattle.gim_round_trip.proofs.PlaceByPlace.{partner}
+use Rattle.gim_round_trip.proofs.PairedLists.{beside_first}
 use Rattle.gim_round_trip.proofs.PlacesFit.{Fits, places_fit}
 use Rattle.gim_round_trip.proofs.Writes.{WritesBlock, Writes}
 
@@ -120,5 +120,5 @@ pub limits_sound : (source : List ℕ) (trees : List FunctionText) (fs : List Fu
 unfolding limits_fault
 limits_sound source trees fs written well limits =
     none_of_each (function_limit_faults source) trees (λ tree there.
-    let r = partner (Writes source) trees fs written tree there in
+    let r = beside_first (Writes source) trees fs written tree there in
     function_free source tree r.0 r.2 (each_has IsWellFormed fs well r.0 r.1) (each_has IsWithinLimits fs limits r.0 r.1))

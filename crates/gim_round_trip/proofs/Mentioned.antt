@@ -31,7 +31,7 @@ use Rattle.gim_round_trip.specs.ReadBack.{IsWithinLimits}
 use Rattle.gim_round_trip.proofs.Facts.{NameFacts, name_facts, each_operand_holds, operand_row, each_block_fits, phi_row, stmt_row, assigned_is_not_initial}
 use Rattle.gim_round_trip.proofs.Said.{params_said, locals_said, operands_written, assigned_said}
 use Rattle.gim_round_trip.proofs.Writes.{Writes, WritesOperand}
-use Rattle.gim_round_trip.proofs.Zips.{zip_left}
+use Rattle.gim_round_trip.proofs.PairedLists.{beside_first}
 
 -- the name of this row stands at the place
 pub record IsNameAt (source : List ℕ) (f : Function) (at : Span) (row : NameRow) : Type 0 where
@@ -122,7 +122,7 @@ module _ (source : List ℕ) (f : Function) (well : IsWellFormed f) (limits : Is
     use_is m there itself =
         let M = mention_of_operand source in
         let a = from_map M (texts_in tree) m (subst (λ l. Has l m) (operands_are_mentioned source tree) (has_flat use_of_mention (mentions_of source tree) m m there itself)) in
-        let x = zip_left (WritesOperand source f) (texts_in tree) (operands_of f) (operands_written source tree f written) a.0 a.1 in
+        let x = beside_first (WritesOperand source f) (texts_in tree) (operands_of f) (operands_written source tree f written) a.0 a.1 in
         subst (MentionIs source f) a.2 (operand_is a.0 x.0 x.1 x.2)
 
     assigned_is : (at : Span) → Has (mentions_of source tree) (Assigned at) → MentionIs source f (Assigned at)

@@ -20,7 +20,7 @@ use Rattle.gim_round_trip.proofs.Never.{NeverBy, never_twice}
 use Rattle.gim_round_trip.proofs.Redefined.{never_redefined}
 use Rattle.gim_round_trip.proofs.Undeclared.{never_undeclared, never_wide}
 use Rattle.gim_round_trip.proofs.Writes.{Writes}
-use Rattle.gim_round_trip.proofs.Zips.{zip_map_same}
+use Rattle.gim_round_trip.proofs.PairedLists.{same_images}
 
 none_of_two : (a b : Option GimpleFault) → a ≡ None → b ≡ None → or_fault a b ≡ None
 none_of_two None b e f = f
@@ -52,7 +52,7 @@ name_said source tree = Some (function_text source tree)
 
 names_are_distinct : (source : List ℕ) (trees : List FunctionText) (fs : List Function) → AllZip (Writes source) trees fs → all_distinct same_text (function_names fs) ≡ true → all_distinct same_text (all_said (name_said source) trees) ≡ true
 names_are_distinct source trees fs written distinct =
-    ap (all_distinct same_text) (each_says (function_text source) trees ∙ zip_map_same (Writes source) (function_text source) (λ (f : Function). f.name) trees fs (λ tree f w. w.name) written) ∙ distinct
+    ap (all_distinct same_text) (each_says (function_text source) trees ∙ same_images (Writes source) (function_text source) (λ (f : Function). f.name) trees fs (λ tree f w. w.name) written) ∙ distinct
 
 first_of_name : (source : List ℕ) (before : List FunctionText) (tree : FunctionText) → stands (name_said source tree) (all_said (name_said source) before) ≡ false → second_function source before tree ≡ None
 first_of_name source before tree new = by (list_any (same_text (function_text source tree)) (map (function_text source) before)) (ap (list_any (same_text (function_text source tree))) (sym (each_says (function_text source) before)) ∙ new) where

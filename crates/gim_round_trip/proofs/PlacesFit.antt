@@ -47,7 +47,7 @@ use Rattle.gim_making.proofs.Membership.{Has, has_left, has_right, has_either, h
 use Rattle.gim_making.proofs.PartLemmas.{same_text_is}
 use Rattle.gim_round_trip.specs.ReadBack.{IsWithinLimits}
 use Rattle.gim_round_trip.proofs.Facts.{of_names, number_text, name_facts, row_found, each_operand_holds, operand_row, each_block_fits, phi_row, stmt_row, number_is_small, target_is_small, phi_block_is_small}
-use Rattle.gim_round_trip.proofs.PlaceByPlace.{partner}
+use Rattle.gim_round_trip.proofs.PairedLists.{beside_first}
 use Rattle.gim_round_trip.proofs.Writes.{WritesOperand, WritesForm, WritesArg, WritesPhi, WritesStmt, WritesEnd, WritesBlock, WritesDecl, Writes}
 
 -- a name of the function, or the number of a block
@@ -140,7 +140,7 @@ module _ (source : List ℕ) (f : Function) (well : IsWellFormed f) (limits : Is
     phi_places (items.Phi name args) phi here writes =
         let row = phi_row f phi (all_has (phi_fits f) block.phis (and_parts _ _ (and_parts _ _ fits).0).0 phi here) in
         after_name source f name 0 (flat_map arg_places args) (named name phi.name row.0 row.1 writes.0) (flat source f arg_places args (λ arg among.
-        let x = partner (WritesArg source f) args phi.args writes.1 arg among in
+        let x = beside_first (WritesArg source f) args phi.args writes.1 arg among in
         let small = phi_block_is_small f well limits block there phi here x.0 x.1 in
         let operand : Has (operands_of f) x.0.1 =
         within_block x.0.1 (has_left (flat_map operands_of_phi block.phis ++ flat_map operands_of_stmt block.stmts) (operands_of_end block.end) x.0.1
@@ -167,8 +167,8 @@ module _ (source : List ℕ) (f : Function) (well : IsWellFormed f) (limits : Is
     block_fit tree writes =
         let each : (item : ItemText) → Has (writes.phi_items ++ writes.stmt_items) item → PlacesFit source f 0 (item_places item) = λ item h.
         elim (has_either writes.phi_items writes.stmt_items item h) [
-          | inl l ↦ let p = partner (WritesPhi source f) writes.phi_items block.phis writes.phis item l in phi_places item p.0 p.1 p.2
-          | inr r ↦ let p = partner (WritesStmt source f) writes.stmt_items block.stmts writes.stmts item r in stmt_places item p.0 p.1 p.2
+          | inl l ↦ let p = beside_first (WritesPhi source f) writes.phi_items block.phis writes.phis item l in phi_places item p.0 p.1 p.2
+          | inr r ↦ let p = beside_first (WritesStmt source f) writes.stmt_items block.stmts writes.stmts item r in stmt_places item p.0 p.1 p.2
         ] in
         let all : PlacesFit source f 0 (flat_map item_places tree.items) = subst (λ l. PlacesFit source f 0 (flat_map item_places l)) (sym writes.in_order) (flat source f item_places (writes.phi_items ++ writes.stmt_items) each) in
         let end = end_fit tree.end block.end (λ a h. within_block a (has_right (flat_map operands_of_phi block.phis ++ flat_map operands_of_stmt block.stmts) (operands_of_end block.end) a h)) (target_is_small f well limits block there) writes.end in
@@ -206,6 +206,6 @@ module _ (source : List ℕ) (f : Function) (well : IsWellFormed f) (limits : Is
   places_fit tree writes =
       joined source f 0 (length tree.blocks) (length tree.blocks) (flat_map (decl_places source) tree.decls) (flat_map block_places tree.blocks) (omega arith)
       (flat source f (decl_places source) tree.decls (λ decl there.
-      let p = partner (WritesDecl source) tree.decls f.decls writes.decls decl there in
+      let p = beside_first (WritesDecl source) tree.decls f.decls writes.decls decl there in
       local_fits (is_anonymous (text_of source decl.ident)) decl p.0 p.1 p.2.0 refl))
       (blocks_fit tree.blocks f.blocks (λ b h. h) writes.blocks)

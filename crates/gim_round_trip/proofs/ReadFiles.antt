@@ -49,7 +49,7 @@ use Rattle.gim_reader.proofs.WrittenLemmas.{few_tokens, file_written}
 use Rattle.gim_round_trip.specs.ReadBack.{IsWithinLimits, function_names, MayBeReadBack}
 use Rattle.gim_round_trip.proofs.Decimals.{AreSmallNumbers, distinct_decimals}
 use Rattle.gim_round_trip.proofs.Filtered.{has_filter}
-use Rattle.gim_round_trip.proofs.PlaceByPlace.{owner, same_images, all_of}
+use Rattle.gim_round_trip.proofs.PairedLists.{beside_second, same_images, all_of}
 
 -- ---- the rules that a file keeps
 
@@ -164,11 +164,11 @@ read_may_be_printed source fs file short =
     let trees = file.from_tokens.trees in
     let stand = file.from_tokens.stand in
     let sound = file_is_sound source file.tokens trees file.within file.are_tokens file.from_tokens.spelled file.from_tokens.kept in
-    let names : map (function_text source) trees ≡ function_names fs = same_images (StandsFor source) (function_text source) (λ (f : Function). f.name) (λ t f s. name_stands source t f s) trees fs stand in
+    let names : map (function_text source) trees ≡ function_names fs = same_images (StandsFor source) (function_text source) (λ (f : Function). f.name) trees fs (λ t f s. name_stands source t f s) stand in
     record {
       well_formed = sound_files source trees fs sound stand;
       within = all_of IsWithinLimits fs (λ f there.
-          let t = owner (StandsFor source) trees fs stand f there in
+          let t = beside_second (StandsFor source) trees fs stand f there in
           let kept = each_keeps source trees sound.names t.0 (has_contains trees t.0 t.1) in
           let limits = each_has (KeepsLimits source) trees (limits_kept source trees sound.limits) t.0 t.1 in
           subst IsWithinLimits (sym t.2.whole) (made_within source t.0 f.names kept limits t.2.names));

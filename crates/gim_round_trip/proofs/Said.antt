@@ -42,12 +42,12 @@ use Rattle.gim_names.proofs.Saying.{declares}
 use Rattle.gim_making.specs.Written.{texts_of_form, text_of_arg, texts_of_item, texts_of_end, texts_of_block, texts_in}
 use Rattle.gim_making.proofs.Membership.{flat_of_map, flat_of_flat, flat_of_nothing, map-append, map_of_flat}
 use Rattle.gim_round_trip.proofs.Writes.{Writes, WritesOperand, WritesForm, WritesArg, WritesPhi, WritesStmt, WritesEnd, WritesBlock, WritesDecl}
-use Rattle.gim_round_trip.proofs.Zips.{zip_append, zip_map, zip_flat, zip_map_same, zip_flat_same}
+use Rattle.gim_round_trip.proofs.PairedLists.{paired_both, paired_images, paired_flat, same_images, same_flat_images}
 
 -- ---- identifiers and numbers
 
 idents_written : (source : List ℕ) (texts : List DeclText) (decls : List Decl) → AllZip (WritesDecl source) texts decls → map (ident_text source) texts ≡ map ident_of decls
-idents_written source texts decls written = zip_map_same (WritesDecl source) (ident_text source) ident_of texts decls (λ text decl w. w.0) written
+idents_written source texts decls written = same_images (WritesDecl source) (ident_text source) ident_of texts decls (λ text decl w. w.0) written
 
 pub params_said : (source : List ℕ) (tree : FunctionText) (f : Function) → Writes source tree f → all_said (param_text source) (mentions_of source tree) ≡ map ident_of f.params
 params_said source tree f written = (declares source tree).params ∙ idents_written source tree.params f.params written.params
@@ -65,7 +65,7 @@ declared_said source tree f written =
 pub numbers_said : (source : List ℕ) (tree : FunctionText) (f : Function) → Writes source tree f → all_said (block_number source) (mentions_of source tree) ≡ map decimal (numbers_of f)
 numbers_said source tree f written =
     (declares source tree).blocks
-    ∙ zip_map_same (WritesBlock source f) (number_text source) (λ (block : Block). decimal block.number) tree.blocks f.blocks (λ text block w. w.number) written.blocks
+    ∙ same_images (WritesBlock source f) (number_text source) (λ (block : Block). decimal block.number) tree.blocks f.blocks (λ text block w. w.number) written.blocks
     ∙ sym (map-map decimal (λ (block : Block). block.number) f.blocks)
 
 -- ---- operands
@@ -94,7 +94,7 @@ form_written source f t (Choice a b c) (sides.Op op (x ∷ y ∷ z ∷ [])) w = 
 form_written source f t (Choice a b c) (sides.Op op (x ∷ y ∷ z ∷ u ∷ xs)) w = absurd w
 
 phi_written : (source : List ℕ) (f : Function) (item : ItemText) (phi : Phi) → WritesPhi source f item phi → AllZip (WritesOperand source f) (texts_of_item item) (operands_of_phi phi)
-phi_written source f (items.Phi name args) phi w = zip_map (WritesArg source f) (WritesOperand source f) text_of_arg (λ (arg : ℕ × Operand). arg.1) args phi.args (λ arg x v. v.1) w.1
+phi_written source f (items.Phi name args) phi w = paired_images (WritesArg source f) (WritesOperand source f) text_of_arg (λ (arg : ℕ × Operand). arg.1) args phi.args (λ arg x v. v.1) w.1
 phi_written source f (items.Stmt name right) phi w = absurd w
 
 stmt_written : (source : List ℕ) (f : Function) (item : ItemText) (stmt : Stmt) → WritesStmt source f item stmt → AllZip (WritesOperand source f) (texts_of_item item) (operands_of_stmt stmt)
@@ -115,17 +115,17 @@ end_written source f (Some (Return a)) (ends.Return x) w = (w, tt)
 
 block_written : (source : List ℕ) (f : Function) (text : BlockText) (block : Block) → WritesBlock source f text block → AllZip (WritesOperand source f) (texts_of_block text) (operands_of_block block)
 block_written source f text block w =
-    let phis = zip_flat (WritesPhi source f) (WritesOperand source f) texts_of_item operands_of_phi w.phi_items block.phis (phi_written source f) w.phis in
-    let stmts = zip_flat (WritesStmt source f) (WritesOperand source f) texts_of_item operands_of_stmt w.stmt_items block.stmts (stmt_written source f) w.stmts in
+    let phis = paired_flat (WritesPhi source f) (WritesOperand source f) texts_of_item operands_of_phi w.phi_items block.phis (phi_written source f) w.phis in
+    let stmts = paired_flat (WritesStmt source f) (WritesOperand source f) texts_of_item operands_of_stmt w.stmt_items block.stmts (stmt_written source f) w.stmts in
     let items : AllZip (WritesOperand source f) (flat_map texts_of_item w.phi_items ++ flat_map texts_of_item w.stmt_items) (flat_map operands_of_phi block.phis ++ flat_map operands_of_stmt block.stmts) =
-    zip_append (WritesOperand source f) (flat_map texts_of_item w.phi_items) (flat_map texts_of_item w.stmt_items) (flat_map operands_of_phi block.phis) (flat_map operands_of_stmt block.stmts) phis stmts in
+    paired_both (WritesOperand source f) (flat_map texts_of_item w.phi_items) (flat_map texts_of_item w.stmt_items) (flat_map operands_of_phi block.phis) (flat_map operands_of_stmt block.stmts) phis stmts in
     let in_order : flat_map texts_of_item w.phi_items ++ flat_map texts_of_item w.stmt_items ≡ flat_map texts_of_item text.items = sym (flat_map-append texts_of_item w.phi_items w.stmt_items) ∙ ap (flat_map texts_of_item) (sym w.in_order) in
-    zip_append (WritesOperand source f) (flat_map texts_of_item text.items) (texts_of_end text.end) (flat_map operands_of_phi block.phis ++ flat_map operands_of_stmt block.stmts) (operands_of_end block.end)
+    paired_both (WritesOperand source f) (flat_map texts_of_item text.items) (texts_of_end text.end) (flat_map operands_of_phi block.phis ++ flat_map operands_of_stmt block.stmts) (operands_of_end block.end)
     (subst (λ l. AllZip (WritesOperand source f) l (flat_map operands_of_phi block.phis ++ flat_map operands_of_stmt block.stmts)) in_order items) (end_written source f text.end block.end w.end)
 
 pub operands_written : (source : List ℕ) (tree : FunctionText) (f : Function) → Writes source tree f → AllZip (WritesOperand source f) (texts_in tree) (operands_of f)
 unfolding operands_of
-operands_written source tree f written = zip_flat (WritesBlock source f) (WritesOperand source f) texts_of_block operands_of_block tree.blocks f.blocks (block_written source f) written.blocks
+operands_written source tree f written = paired_flat (WritesBlock source f) (WritesOperand source f) texts_of_block operands_of_block tree.blocks f.blocks (block_written source f) written.blocks
 
 -- ---- assigned names
 
@@ -205,8 +205,8 @@ stmt_assigns source f (items.Stmt name right) stmt w = w.0
 
 block_names : (source : List ℕ) (f : Function) (text : BlockText) (block : Block) → WritesBlock source f text block → map (name_of_item source) text.items ≡ map (assigned_text f) (assigned_in block)
 block_names source f text block w =
-    let phis = zip_map_same (WritesPhi source f) (name_of_item source) (λ (phi : Phi). assigned_text f phi.name) w.phi_items block.phis (phi_assigns source f) w.phis in
-    let stmts = zip_map_same (WritesStmt source f) (name_of_item source) (λ (stmt : Stmt). assigned_text f stmt.name) w.stmt_items block.stmts (stmt_assigns source f) w.stmts in
+    let phis = same_images (WritesPhi source f) (name_of_item source) (λ (phi : Phi). assigned_text f phi.name) w.phi_items block.phis (phi_assigns source f) w.phis in
+    let stmts = same_images (WritesStmt source f) (name_of_item source) (λ (stmt : Stmt). assigned_text f stmt.name) w.stmt_items block.stmts (stmt_assigns source f) w.stmts in
     ap (map (name_of_item source)) w.in_order
     ∙ map-append (name_of_item source) w.phi_items w.stmt_items
     ∙ ap (λ l. l ++ map (name_of_item source) w.stmt_items) (phis ∙ sym (map-map (assigned_text f) phi_name block.phis))
@@ -218,5 +218,5 @@ unfolding assigned
 assigned_said source tree f written =
     said_flat (text_assigned source) (mentions_of source tree)
     ∙ tree_assigns source tree
-    ∙ zip_flat_same (WritesBlock source f) (λ (block : BlockText). map (name_of_item source) block.items) (λ (block : Block). map (assigned_text f) (assigned_in block)) tree.blocks f.blocks (block_names source f) written.blocks
+    ∙ same_flat_images (WritesBlock source f) (λ (block : BlockText). map (name_of_item source) block.items) (λ (block : Block). map (assigned_text f) (assigned_in block)) tree.blocks f.blocks (block_names source f) written.blocks
     ∙ sym (map_of_flat (assigned_text f) assigned_in f.blocks)

@@ -34,7 +34,7 @@ use Rattle.gim_making.proofs.SmallLemmas.{each_has}
 use Rattle.gim_round_trip.specs.ReadBack.{IsWithinLimits}
 use Rattle.gim_round_trip.proofs.Decimals.{AreSmallNumbers, among_decimals, distinct_decimals, all_among_decimals, images_are_decimals}
 use Rattle.gim_round_trip.proofs.Facts.{number_is_small, predecessor_is_small, target_is_small, phi_block_is_small}
-use Rattle.gim_round_trip.proofs.PlaceByPlace.{partner}
+use Rattle.gim_round_trip.proofs.PairedLists.{beside_first}
 use Rattle.gim_round_trip.proofs.NoFault.{none_joined, none_of_each}
 use Rattle.gim_round_trip.proofs.Writes.{WritesArg, WritesPhi, WritesStmt, WritesEnd, WritesBlock, Writes}
 
@@ -196,7 +196,7 @@ body_free source f close (tree ∷ trees) (block ∷ blocks) written entry free 
     let all = tree ∷ trees in
     none_joined (faults_among source all false tree) (flat_map (faults_among source all true) trees) (free false tree block (inl refl) written.0 (λ e. entry))
     (none_of_each (faults_among source all true) trees (λ t there.
-    let r = partner (WritesBlock source f) trees blocks written.1 t there in
+    let r = beside_first (WritesBlock source f) trees blocks written.1 t there in
     free true t r.0 (inr r.1) r.2 (λ e. absurd (false≢true (sym e)))))
 
 function_free : (source : List ℕ) (tree : FunctionText) (f : Function) → Writes source tree f → IsWellFormed f → IsWithinLimits f → first_fault (function_faults source tree) ≡ None
@@ -208,5 +208,5 @@ pub shape_sound : (source : List ℕ) (trees : List FunctionText) (fs : List Fun
 unfolding shape_fault
 shape_sound source trees fs written well limits =
     none_of_each (function_faults source) trees (λ tree there.
-    let r = partner (Writes source) trees fs written tree there in
+    let r = beside_first (Writes source) trees fs written tree there in
     function_free source tree r.0 r.2 (each_has IsWellFormed fs well r.0 r.1) (each_has IsWithinLimits fs limits r.0 r.1))
