@@ -6,6 +6,7 @@ pub mod Operands
 pub mod Prints
 pub mod Reading
 pub mod RoundTrip
+pub mod Sequences
 pub mod ShapeSound
 pub mod Tokens
 pub mod TypesSound

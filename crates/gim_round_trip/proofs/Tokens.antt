@@ -8,6 +8,7 @@ use Rattle.gim_ast.specs.Identifiers.{is_identifier}
 use Rattle.gim_ast.specs.Printing.{sign_text}
 use Rattle.gim_text.specs.declared.token.Span.{Span}
 use Rattle.gim_text.specs.declared.token.Keyword.{Keyword}
+use Rattle.gim_text.specs.declared.token.Keyword.TheVariants as keywords
 use Rattle.gim_text.specs.declared.token.Mark.{Mark}
 use Rattle.gim_text.specs.declared.token.Mark.TheVariants as marks
 use Rattle.gim_text.specs.Meanings.{mark, keyword, identifier, block_word}
@@ -29,18 +30,49 @@ pub ssa_prints : (source : List ℕ) → Prints source word_end (λ (at : Span).
 ssa_prints source = ?
 
 -- the word of a reserved keyword
-pub keyword_text : Keyword → List ℕ
-keyword_text k = ?
+abbrev pub keyword_text : Keyword → List ℕ
+keyword_text keywords.Gimple = codes "__GIMPLE"
+keyword_text keywords.Void = codes "void"
+keyword_text keywords.Block = codes "__BB"
+keyword_text keywords.Phi = codes "__PHI"
+keyword_text keywords.Goto = codes "goto"
+keyword_text keywords.If = codes "if"
+keyword_text keywords.Else = codes "else"
+keyword_text keywords.Return = codes "return"
+keyword_text keywords.Min = codes "__MIN"
+keyword_text keywords.Max = codes "__MAX"
+keyword_text keywords.Abs = codes "__ABS"
+keyword_text keywords.Absu = codes "__ABSU"
+keyword_text keywords.Literal = codes "_Literal"
+keyword_text keywords.Default = codes "D"
 
 pub keyword_prints : (source : List ℕ) (k : Keyword) → Prints source word_end (λ (at : Span). Meant (keyword k) at) (λ at. Unit {0}) (keyword_text k)
 keyword_prints source k = ?
 
 -- a mark of one byte that begins no mark of two bytes and no separator: `( ) { } , : ? - ~` and their like
-pub is_plain_mark : Mark → Bool
-is_plain_mark m = ?
+abbrev pub is_plain_mark : Mark → Bool
+is_plain_mark marks.Open = true
+is_plain_mark marks.Close = true
+is_plain_mark marks.OpenBrace = true
+is_plain_mark marks.CloseBrace = true
+is_plain_mark marks.Comma = true
+is_plain_mark marks.Colon = true
+is_plain_mark marks.Question = true
+is_plain_mark marks.Minus = true
+is_plain_mark marks.Tilde = true
+is_plain_mark m = false
 
-pub plain_mark_text : Mark → List ℕ
-plain_mark_text m = ?
+abbrev pub plain_mark_text : Mark → List ℕ
+plain_mark_text marks.Open = codes "("
+plain_mark_text marks.Close = codes ")"
+plain_mark_text marks.OpenBrace = codes "{"
+plain_mark_text marks.CloseBrace = codes "}"
+plain_mark_text marks.Comma = codes ","
+plain_mark_text marks.Colon = codes ":"
+plain_mark_text marks.Question = codes "?"
+plain_mark_text marks.Minus = codes "-"
+plain_mark_text marks.Tilde = codes "~"
+plain_mark_text m = []
 
 pub mark_prints : (source : List ℕ) (m : Mark) → is_plain_mark m ≡ true → Prints source any_end (λ (at : Span). Meant (mark m) at) (λ at. Unit {0}) (plain_mark_text m)
 mark_prints source m h = ?
@@ -53,8 +85,24 @@ pub semicolon_prints : (source : List ℕ) → Prints source blank_end (λ (at :
 semicolon_prints source = ?
 
 -- the sign of an operation between two operands, with a blank on both sides
-pub is_infix : Code → Bool
-is_infix code = ?
+abbrev pub is_infix : Code → Bool
+is_infix operations.Plus = true
+is_infix operations.Minus = true
+is_infix operations.Mult = true
+is_infix operations.TruncDiv = true
+is_infix operations.TruncMod = true
+is_infix operations.BitAnd = true
+is_infix operations.BitIor = true
+is_infix operations.BitXor = true
+is_infix operations.Lshift = true
+is_infix operations.Rshift = true
+is_infix operations.Eq = true
+is_infix operations.Ne = true
+is_infix operations.Lt = true
+is_infix operations.Le = true
+is_infix operations.Gt = true
+is_infix operations.Ge = true
+is_infix code = false
 
 pub sign_prints : (source : List ℕ) (code : Code) → is_infix code ≡ true → Prints source any_end (λ (u : Unit {0}). Meant infix_code code) (λ u. Unit {0}) (codes " " ++ sign_text code ++ codes " ")
 sign_prints source code h = ?
