@@ -1,10 +1,10 @@
 -- What the rules on a function say of its names, numbers and parts, and how their texts are read.
-use Rattle.std.proofs.Common.{◌≡◌, ℕ, ◌<◌, ◌^◌, Bool, true, false, cond, Option, Some, None, List, [], ◌∷◌, ◌++◌, map, lit≤, refl, sym, ap, ◌∙◌, arith, inl, inr}
+use Rattle.std.proofs.Common.{◌≡◌, ℕ, ◌<◌, ◌^◌, Bool, true, false, cond, Option, Some, None, List, [], ◌∷◌, ◌++◌, map, codes, lit≤, refl, sym, ap, ◌∙◌, arith, inl, inr}
 use Rattle.std.specs.Prelude.{◌==◌, ◌&&◌, ◌||◌, not, nat_lt, IsTrue}
 use Rattle.std.specs.List.{list_all, list_any, flat_map}
 use Rattle.std.specs.Option.{option_map_or, unwrap_or}
 use Rattle.std.specs.Fmt.{decimal}
-use Rattle.std.proofs.lemmas.Bool.{and_parts, eqb-true, eq-eqb, ltb-true, false≢true}
+use Rattle.std.proofs.lemmas.Bool.{and_parts, eqb-true, eq-eqb, ltb-true, not-true, false≢true}
 use Rattle.std.proofs.lemmas.Fmt.{decimal_injective}
 use Rattle.pm_wide.specs.Types.{Ty, same_type}
 use Rattle.pm_wide.specs.declared.operand.Operand.{Operand}
@@ -19,8 +19,8 @@ use Rattle.gim_ast.specs.declared.function.NameRow.{NameRow}
 use Rattle.gim_ast.specs.Functions.{operands_of, assigned, targets_of, row_of}
 use Rattle.gim_ast.specs.Identifiers.{is_number_text, is_anonymous, anonymous}
 use Rattle.gim_ast.specs.Numbers.{number_below, capped}
-use Rattle.gim_ast.specs.Printing.{assigned_text, is_initial, type_of_name, base_of}
-use Rattle.gim_ast.specs.WellFormed.{IsWellFormed, same_text, all_distinct, rises, base_holds, row_stands, initial_bases, names_hold, operand_holds, block_fits, phi_fits, stmt_fits, end_fits, rhs_fits, numbers_of, is_among, is_assigned, predecessors, phi_blocks, phi_holds, type_of}
+use Rattle.gim_ast.specs.Printing.{name_text, assigned_text, is_initial, type_of_name, base_of}
+use Rattle.gim_ast.specs.WellFormed.{IsWellFormed, same_text, all_distinct, rises, base_holds, row_stands, initial_bases, names_hold, operand_holds, block_fits, phi_fits, stmt_fits, end_fits, rhs_fits, numbers_of, is_among, is_assigned, blocks_hold, entry_has_no_phi, is_empty, predecessors, phi_blocks, phi_holds, type_of}
 use Rattle.gim_ast.proofs.NumberLemmas.{number_below-decimal}
 use Rattle.gim_ast.specs.Removal.{is_used}
 use Rattle.gim_text.specs.Texts.{name_parts}
@@ -93,14 +93,18 @@ pub record NameFacts (f : Function) (x : ℕ) (row : NameRow) : Type 0 where
   pub base : base_holds f row ≡ true
   pub stands : row_stands f row ≡ true
 
+underscored : (base bs : List ℕ) → base ++ codes "_" ++ bs ≡ base ++ 95 ∷ bs
+underscored [] bs = refl
+underscored (b ∷ base) bs = ap (λ t. b ∷ t) (underscored base bs)
+
 pub name_facts : (f : Function) (x : ℕ) (row : NameRow) → IsWellFormed f → IsWithinLimits f → row_of f x ≡ Some row → NameFacts f x row
-unfolding row_of, base_of, is_initial, type_of_name
+unfolding row_of base_of is_initial type_of_name
 name_facts f x row well limits found =
     let has : Has f.names row = first_of_in x f.names row found in
     let version : row.version ≡ x = first_of_has x f.names row found in
     let below : row.version < 1000000000 = ltb-true row.version 1000000000 (all_has (λ v. nat_lt v 1000000000) (map version_of f.names) limits.versions row.version (has_map version_of f.names row has)) in
     let small : x < 1000000000 = omega (arith, below, version) in
-    let text : assigned_text f x ≡ row.base ++ 95 ∷ decimal x = ap (λ o. option_map_or (λ (r : NameRow). r.base) o [] ++ 95 ∷ decimal x) found in
+    let text : assigned_text f x ≡ row.base ++ 95 ∷ decimal x = ap (λ o. name_text (option_map_or (λ (r : NameRow). r.base) o []) x) found ∙ underscored row.base (decimal x) in
     let both = and_parts (base_holds f row) (row_stands f row) (all_has (λ (r : NameRow). base_holds f r && row_stands f r) f.names (of_names f well).rows row has) in
     record {
       is_version = version;
@@ -153,6 +157,37 @@ assigned_is_not_initial f x row well limits there found =
       by true true u other is h stands = absurd (false≢true stands)
       by true false u other is h stands = absurd (false≢true h)
 
+-- ---- the rules on blocks, one by one
+
+pub record BlocksHold (f : Function) : Type 0 where
+  pub entry : entry_has_no_phi f.blocks ≡ true
+  pub distinct : all_distinct ◌==◌ (numbers_of f) ≡ true
+  pub targets : list_all (λ n. is_among n (numbers_of f)) (flat_map (λ (block : Block). targets_of block.end) f.blocks) ≡ true
+  pub phis : list_all (λ (block : Block). list_all (phi_holds f block.number) block.phis) f.blocks ≡ true
+
+blocks_hold_so : (f : Function) → blocks_hold f ≡ true → BlocksHold f
+blocks_hold_so f h =
+    let last = and_parts _ _ h in
+    let targets = and_parts _ _ last.0 in
+    let first = and_parts _ _ targets.0 in
+    record { entry = first.0; distinct = first.1; targets = targets.1; phis = last.1 }
+
+pub of_blocks : (f : Function) → IsWellFormed f → BlocksHold f
+of_blocks f well = blocks_hold_so f well.blocks
+
+pub record PhiHolds (f : Function) (n : ℕ) (phi : Phi) : Type 0 where
+  pub distinct : all_distinct ◌==◌ (phi_blocks phi) ≡ true
+  pub only : list_all (λ m. is_among m (predecessors f n)) (phi_blocks phi) ≡ true
+  pub each : list_all (λ m. is_among m (phi_blocks phi)) (predecessors f n) ≡ true
+  pub some : is_empty phi.args ≡ false
+
+pub phi_rules : (f : Function) (n : ℕ) (phi : Phi) → phi_holds f n phi ≡ true → PhiHolds f n phi
+phi_rules f n phi h =
+    let last = and_parts _ _ h in
+    let each = and_parts _ _ last.0 in
+    let first = and_parts _ _ each.0 in
+    record { distinct = first.0; only = first.1; each = each.1; some = not-true (is_empty phi.args) last.1 }
+
 -- ---- numbers of blocks
 
 pub number_is_small : (f : Function) → IsWithinLimits f → (block : Block) → Has f.blocks block → block.number < 1000000000
@@ -179,14 +214,12 @@ predecessor_is_small f limits n m there =
 
 pub target_is_small : (f : Function) → IsWellFormed f → IsWithinLimits f → (block : Block) → Has f.blocks block → (n : ℕ) → Has (targets_of block.end) n → n < 1000000000
 target_is_small f well limits block there n leads =
-    let targets = (and_parts _ _ (and_parts _ _ well.blocks).0).1 in
-    among_is_small f limits n (all_has (λ m. is_among m (numbers_of f)) (flat_map (λ (b : Block). targets_of b.end) f.blocks) targets n (has_flat (λ (b : Block). targets_of b.end) f.blocks block n there leads))
+    among_is_small f limits n (all_has (λ m. is_among m (numbers_of f)) (flat_map (λ (b : Block). targets_of b.end) f.blocks) (of_blocks f well).targets n (has_flat (λ (b : Block). targets_of b.end) f.blocks block n there leads))
 
 pub phi_block_is_small : (f : Function) → IsWellFormed f → IsWithinLimits f → (block : Block) → Has f.blocks block → (phi : Phi) → Has block.phis phi → (arg : ℕ × Operand) → Has phi.args arg → arg.0 < 1000000000
 phi_block_is_small f well limits block there phi here arg stands =
-    let phis = all_has (λ (b : Block). list_all (phi_holds f b.number) b.phis) f.blocks (and_parts _ _ well.blocks).1 block there in
-    let holds = all_has (phi_holds f block.number) block.phis phis phi here in
-    let among = (and_parts _ _ (and_parts _ _ (and_parts _ _ holds).0).0).1 in
-    let arg_among = all_has (λ m. is_among m (predecessors f block.number)) (phi_blocks phi) among arg.0 (has_map (λ (a : ℕ × Operand). a.0) phi.args arg stands) in
+    let phis = all_has (λ (b : Block). list_all (phi_holds f b.number) b.phis) f.blocks (of_blocks f well).phis block there in
+    let holds = phi_rules f block.number phi (all_has (phi_holds f block.number) block.phis phis phi here) in
+    let arg_among = all_has (λ m. is_among m (predecessors f block.number)) (phi_blocks phi) holds.only arg.0 (has_map (λ (a : ℕ × Operand). a.0) phi.args arg stands) in
     let found = any_has (λ m. m == arg.0) (predecessors f block.number) arg_among in
     omega (arith, predecessor_is_small f limits block.number found.0 found.1, eqb-true found.0 arg.0 found.2)

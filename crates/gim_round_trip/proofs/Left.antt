@@ -23,7 +23,7 @@ behind source at bs rest left =
     let all : length (drop at source) ≡ length source - at = length-drop at source in
     let same : length (drop at source) ≡ length (bs ++ rest) = ap length left.is in
     record {
-      is = sym (drop-drop at (length bs) source) ∙ ap (drop (length bs)) left.is ∙ front_dropped bs rest;
+      is = sym (drop-drop (length bs) at source) ∙ ap (drop (length bs)) left.is ∙ front_dropped bs rest;
       within = omega (arith, length-append bs rest, left.within);
     }
 
