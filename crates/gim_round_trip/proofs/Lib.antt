@@ -5,6 +5,7 @@ pub mod NamesSound
 pub mod Operands
 pub mod Prints
 pub mod Reading
+pub mod Rights
 pub mod RoundTrip
 pub mod Sequences
 pub mod ShapeSound

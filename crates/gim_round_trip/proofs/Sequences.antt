@@ -16,74 +16,54 @@ use Rattle.gim_lexer.proofs.Cutting.{cuts_further}
 use Rattle.gim_making.proofs.Membership.{Has}
 use Rattle.gim_statements.specs.Grammar.{◌▸◌, AMark, AKeyword}
 use Rattle.gim_round_trip.proofs.Left.{Left}
-use Rattle.gim_round_trip.proofs.Prints.{Close, any_end, word_end, blank_end, Ends, Prints, Reads, seen, sooner, blanks_before, blanks_after}
+use Rattle.gim_round_trip.proofs.Prints.{Close, any_end, word_end, blank_end, Ends, Prints, joined, seen, blanks_before}
 use Rattle.gim_round_trip.proofs.Tokens.{keyword_text, keyword_prints, is_plain_mark, plain_mark_text, mark_prints, assign_prints, semicolon_prints}
-
--- the same as `Prints`, as a record, from which its parts are found
-pub record Printed {A : Type 0} (source : List ℕ) (end : Close) (N : A → List Token → Type 0) (Is : A → Type 0) (text : List ℕ) : Type 0 where
-  pub reads : Prints source end N Is text
 
 -- tokens of which no value is kept
 abbrev pub Quiet : List ℕ → Close → (List Token → Type 0) → List ℕ → Type 0
-Quiet source end Q text = Printed source end (λ (u : Unit {0}). Q) (λ (u : Unit {0}). Unit {0}) text
-
--- what may follow the first text is the second, with what may follow that
-abbrev pub Follows : Close → List ℕ → Close → Type 0
-Follows first b last = (rest : List ℕ) → Ends last rest → Ends first (b ++ rest)
-
--- one text behind another
-pub pair : {A B : Type 0} {N : A → List Token → Type 0} {M : B → List Token → Type 0} {Is : A → Type 0} {Js : B → Type 0} {source : List ℕ} {first last : Close} {a b : List ℕ}
-    → Printed source first N Is a → Follows first b last → Printed source last M Js b
-    → Printed source last (λ (x : A × B). N x.0 ▸ M x.1) (λ x. Is x.0 × Js x.1) (a ++ b)
-pair {source = source} {a = a} {b = b} one follows two = record {
-  reads = λ at rest ends left.
-    let r = one.reads at (b ++ rest) (follows rest ends) (subst (Left source at) (append_assoc a b rest) left) in
-    let s = two.reads r.to rest ends r.left in
-    record {
-      value = (r.value, s.value);
-      tokens = r.tokens ++ s.tokens;
-      to = s.to;
-      cut = cuts_further source at r.to s.to r.tokens s.tokens r.cut s.cut;
-      left = s.left;
-      spelled = (r.tokens, s.tokens, r.spelled, s.spelled, refl);
-      is = (r.is, s.is);
-    };
-}
-
--- the same read as another value
-pub turned : {A B : Type 0} {N : A → List Token → Type 0} {M : B → List Token → Type 0} {Is : A → Type 0} {Js : B → Type 0} {source : List ℕ} {end : Close} {a : List ℕ}
-    → Printed source end N Is a → (f : A → B) → ((x : A) (w : List Token) → Is x → N x w → M (f x) w) → ((x : A) → Is x → Js (f x)) → Printed source end M Js a
-turned one f spells holds = record { reads = seen one.reads f spells holds }
+Quiet source end Q text = Prints source end (λ (u : Unit {0}). Q) (λ (u : Unit {0}). Unit {0}) text
 
 -- tokens without a value before a part, and behind it
 pub lead : {B : Type 0} {Q : List Token → Type 0} {M : B → List Token → Type 0} {Js : B → Type 0} {source : List ℕ} {first last : Close} {a b : List ℕ}
-    → Quiet source first Q a → Follows first b last → Printed source last M Js b → Printed source last (λ (y : B). Q ▸ M y) Js (a ++ b)
-lead one follows two = turned (pair one follows two) (λ x. x.1) (λ x w is spelled. spelled) (λ x is. is.1)
+    → Quiet source first Q a → ((rest : List ℕ) → Ends first (b ++ rest)) → Prints source last M Js b → Prints source last (λ (y : B). Q ▸ M y) Js (a ++ b)
+lead one follows two = seen (joined one follows two) (λ x. x.1) (λ x w is spelled. spelled) (λ x is. is.1)
 
 pub trail : {A : Type 0} {N : A → List Token → Type 0} {Q : List Token → Type 0} {Is : A → Type 0} {source : List ℕ} {first last : Close} {a b : List ℕ}
-    → Printed source first N Is a → Follows first b last → Quiet source last Q b → Printed source last (λ (x : A). N x ▸ Q) Is (a ++ b)
-trail one follows two = turned (pair one follows two) (λ x. x.0) (λ x w is spelled. spelled) (λ x is. is.0)
+    → Prints source first N Is a → ((rest : List ℕ) → Ends first (b ++ rest)) → Quiet source last Q b → Prints source last (λ (x : A). N x ▸ Q) Is (a ++ b)
+trail one follows two = seen (joined one follows two) (λ x. x.0) (λ x w is spelled. spelled) (λ x is. is.0)
 
-pub early : {A : Type 0} {N : A → List Token → Type 0} {Is : A → Type 0} {source : List ℕ} {end : Close} {a : List ℕ} → Printed source any_end N Is a → Printed source end N Is a
-early one = record { reads = sooner one.reads }
-
-pub behind_blanks : {A : Type 0} {N : A → List Token → Type 0} {Is : A → Type 0} {source : List ℕ} {end : Close} {a : List ℕ} (blanks : List ℕ)
-    → list_all is_space blanks ≡ true → Printed source end N Is a → Printed source end N Is (blanks ++ a)
-behind_blanks blanks all one = record { reads = blanks_before blanks all one.reads }
-
-pub before_blanks : {A : Type 0} {N : A → List Token → Type 0} {Is : A → Type 0} {source : List ℕ} {first last : Close} {a : List ℕ} (blanks : List ℕ)
-    → list_all is_space blanks ≡ true → ((rest : List ℕ) → Ends first (blanks ++ rest)) → Printed source first N Is a → Printed source last N Is (a ++ blanks)
-before_blanks blanks all follows one = record { reads = blanks_after blanks all follows one.reads }
+-- the same text, written otherwise
+pub told : {A : Type 0} {N : A → List Token → Type 0} {Is : A → Type 0} {source : List ℕ} {end : Close} {a b : List ℕ} → a ≡ b → Prints source end N Is a → Prints source end N Is b
+told {N = N} {Is = Is} {source = source} {end = end} same one = subst (λ text. Prints source end N Is text) same one
 
 -- ---- lists
 
-no_items : {A X : Type 0} (source : List ℕ) (end : Close) (N : A → List Token → Type 0) (Is : A → X → Type 0) → Printed source end (Many N) (λ (as : List A). AllZip Is as []) []
-no_items source end N Is = record { reads = λ at rest ends left. record { value = []; tokens = []; to = at; cut = done at; left = left; spelled = refl; is = tt } }
+no_items : {A X : Type 0} (source : List ℕ) (end : Close) (N : A → List Token → Type 0) (Is : A → X → Type 0) → Prints source end (Many N) (λ (ys : List A). AllZip Is ys []) []
+no_items source end N Is = record { read = λ at rest ends left. record { value = []; tokens = []; to = at; cut = done at; left = left; spelled = refl; is = tt } }
+
+-- what may follow the first text is the second, with what may follow that
+abbrev Follows : Close → List ℕ → Close → Type 0
+Follows first b last = (rest : List ℕ) → Ends last rest → Ends first (b ++ rest)
+
+-- one text behind another, with what may follow that
+followed : {A B : Type 0} {N : A → List Token → Type 0} {M : B → List Token → Type 0} {Is : A → Type 0} {Js : B → Type 0} {source : List ℕ} {first last : Close} {a b : List ℕ}
+    → Prints source first N Is a → Follows first b last → Prints source last M Js b
+    → Prints source last (λ (x : A × B). N x.0 ▸ M x.1) (λ x. Is x.0 × Js x.1) (a ++ b)
+followed {source = source} {a = a} {b = b} one follows two = record {
+    read = λ at rest ends left.
+      let r = one.read at (b ++ rest) (follows rest ends) (subst (Left source at) (append_assoc a b rest) left) in
+      let s = two.read r.to rest ends r.left in
+      record {
+          value = (r.value, s.value); tokens = r.tokens ++ s.tokens; to = s.to;
+          cut = cuts_further source at r.to s.to r.tokens s.tokens r.cut s.cut;
+          left = s.left; spelled = (r.tokens, s.tokens, r.spelled, s.spelled, refl); is = (r.is, s.is);
+      };
+    }
 
 one_more : {A X : Type 0} {source : List ℕ} {end : Close} {N : A → List Token → Type 0} {Is : A → X → Type 0} {a b : List ℕ} (x : X) (xs : List X)
-    → Printed source end N (λ y. Is y x) a → Follows end b end → Printed source end (Many N) (λ (ys : List A). AllZip Is ys xs) b
-    → Printed source end (Many N) (λ (ys : List A). AllZip Is ys (x ∷ xs)) (a ++ b)
-one_more x xs one follows others = turned (pair one follows others) (λ p. p.0 ∷ p.1) (λ p w is spelled. spelled) (λ p is. is)
+    → Prints source end N (λ y. Is y x) a → Follows end b end → Prints source end (Many N) (λ (ys : List A). AllZip Is ys xs) b
+    → Prints source end (Many N) (λ (ys : List A). AllZip Is ys (x ∷ xs)) (a ++ b)
+one_more x xs one follows others = seen (followed one follows others) (λ p. p.0 ∷ p.1) (λ p w is spelled. spelled) (λ p is. is)
 
 -- what may follow an item is what follows, or a further item
 front : {X : Type 0} (end : Close) (text : X → List ℕ) (xs : List X) → ((x : X) → Follows end (text x) end) → Follows end (flat_map text xs) end
@@ -93,8 +73,8 @@ front end text (x ∷ xs) follows rest ends =
 
 -- items, where each may follow another
 pub many : {A X : Type 0} (source : List ℕ) (end : Close) (N : A → List Token → Type 0) (Is : A → X → Type 0) (text : X → List ℕ) (xs : List X)
-    → ((x : X) → Has xs x → Printed source end N (λ (y : A). Is y x) (text x)) → ((x : X) → Follows end (text x) end)
-    → Printed source end (Many N) (λ (ys : List A). AllZip Is ys xs) (flat_map text xs)
+    → ((x : X) → Has xs x → Prints source end N (λ (y : A). Is y x) (text x)) → ((x : X) → Follows end (text x) end)
+    → Prints source end (Many N) (λ (ys : List A). AllZip Is ys xs) (flat_map text xs)
 many source end N Is text [] each follows = no_items source end N Is
 many source end N Is text (x ∷ xs) each follows =
     one_more x xs (each x (inl refl)) (front end text xs follows) (many source end N Is text xs (λ y there. each y (inr there)) follows)
@@ -103,34 +83,34 @@ many source end N Is text (x ∷ xs) each follows =
 
 pub quiet_mark : (source : List ℕ) (m : Mark) → is_plain_mark m ≡ true → Quiet source any_end (AMark m) (plain_mark_text m)
 quiet_mark source m plain =
-    let one : Printed source any_end (λ (at : Span). Meant (mark m) at) (λ at. Unit {0}) (plain_mark_text m) = record { reads = mark_prints source m plain } in
-    turned one (λ at. tt) (λ at w is spelled. (at, spelled)) (λ at is. tt)
+    let one : Prints source any_end (λ (at : Span). Meant (mark m) at) (λ at. Unit {0}) (plain_mark_text m) = mark_prints source m plain in
+    seen one (λ at. tt) (λ at w is spelled. (at, spelled)) (λ at is. tt)
 
 pub quiet_assign : (source : List ℕ) → Quiet source blank_end (AMark marks.Assign) (codes "=")
 quiet_assign source =
-    let one : Printed source blank_end (λ (at : Span). Meant (mark marks.Assign) at) (λ at. Unit {0}) (codes "=") = record { reads = assign_prints source } in
-    turned one (λ at. tt) (λ at w is spelled. (at, spelled)) (λ at is. tt)
+    let one : Prints source blank_end (λ (at : Span). Meant (mark marks.Assign) at) (λ at. Unit {0}) (codes "=") = assign_prints source in
+    seen one (λ at. tt) (λ at w is spelled. (at, spelled)) (λ at is. tt)
 
 pub quiet_semicolon : (source : List ℕ) → Quiet source blank_end (AMark marks.Semicolon) (codes ";")
 quiet_semicolon source =
-    let one : Printed source blank_end (λ (at : Span). Meant (mark marks.Semicolon) at) (λ at. Unit {0}) (codes ";") = record { reads = semicolon_prints source } in
-    turned one (λ at. tt) (λ at w is spelled. (at, spelled)) (λ at is. tt)
+    let one : Prints source blank_end (λ (at : Span). Meant (mark marks.Semicolon) at) (λ at. Unit {0}) (codes ";") = semicolon_prints source in
+    seen one (λ at. tt) (λ at w is spelled. (at, spelled)) (λ at is. tt)
 
 pub quiet_keyword : (source : List ℕ) (k : Keyword) → Quiet source word_end (AKeyword k) (keyword_text k)
 quiet_keyword source k =
-    let one : Printed source word_end (λ (at : Span). Meant (keyword k) at) (λ at. Unit {0}) (keyword_text k) = record { reads = keyword_prints source k } in
-    turned one (λ at. tt) (λ at w is spelled. (at, spelled)) (λ at is. tt)
+    let one : Prints source word_end (λ (at : Span). Meant (keyword k) at) (λ at. Unit {0}) (keyword_text k) = keyword_prints source k in
+    seen one (λ at. tt) (λ at w is spelled. (at, spelled)) (λ at is. tt)
 
 -- ---- lists with commas
 
-after_comma : {A : Type 0} {N : A → List Token → Type 0} {Is : A → Type 0} {a : List ℕ} (source : List ℕ) → Printed source word_end N Is a
-    → Printed source word_end (λ y. AMark marks.Comma ▸ N y) Is (codes ", " ++ a)
-after_comma source one = lead (quiet_mark source marks.Comma refl) (λ rest ends. tt) (behind_blanks (codes " ") refl one)
+after_comma : {A : Type 0} {N : A → List Token → Type 0} {Is : A → Type 0} {a : List ℕ} (source : List ℕ) → Prints source word_end N Is a
+    → Prints source word_end (λ y. AMark marks.Comma ▸ N y) Is (codes ", " ++ a)
+after_comma source one = lead (quiet_mark source marks.Comma refl) (λ rest. tt) (blanks_before (codes " ") refl one)
 
 -- parts with a comma and a space between two: the first, and each other behind its comma
 pub comma_list : {A X : Type 0} (source : List ℕ) (N : A → List Token → Type 0) (Is : A → X → Type 0) (part : X → List ℕ) (x : X) (xs : List X)
-    → ((y : X) → Has (x ∷ xs) y → Printed source word_end N (λ (a : A). Is a y) (part y))
-    → Printed source word_end (λ (ys : A × List A). N ys.0 ▸ Many (λ y. AMark marks.Comma ▸ N y) ys.1) (λ ys. Is ys.0 x × AllZip Is ys.1 xs) (listed part (x ∷ xs))
+    → ((y : X) → Has (x ∷ xs) y → Prints source word_end N (λ (a : A). Is a y) (part y))
+    → Prints source word_end (λ (ys : A × List A). N ys.0 ▸ Many (λ y. AMark marks.Comma ▸ N y) ys.1) (λ ys. Is ys.0 x × AllZip Is ys.1 xs) (listed part (x ∷ xs))
 comma_list source N Is part x xs each =
-    pair (each x (inl refl)) (front word_end (λ y. codes ", " ++ part y) xs (λ y rest ends. refl))
+    followed (each x (inl refl)) (front word_end (λ y. codes ", " ++ part y) xs (λ y rest ends. refl))
       (many source word_end (λ y. AMark marks.Comma ▸ N y) Is (λ y. codes ", " ++ part y) xs (λ y there. after_comma source (each y (inr there))) (λ y rest ends. refl))
