@@ -1,6 +1,8 @@
+pub mod Ends
 pub mod Facts
 pub mod Left
 pub mod LimitsSound
+pub mod Lines
 pub mod NamesSound
 pub mod Operands
 pub mod Prints
