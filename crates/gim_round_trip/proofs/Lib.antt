@@ -1,6 +1,7 @@
 pub mod Blocks
 pub mod Ends
 pub mod Facts
+pub mod Functions
 pub mod Left
 pub mod LimitsSound
 pub mod Lines

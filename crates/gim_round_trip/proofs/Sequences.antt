@@ -38,8 +38,9 @@ told {N = N} {Is = Is} {source = source} {end = end} same one = subst (λ text. 
 
 -- ---- lists
 
-no_items : {A X : Type 0} (source : List ℕ) (end : Close) (N : A → List Token → Type 0) (Is : A → X → Type 0) → Prints source end (Many N) (λ (ys : List A). AllZip Is ys []) []
-no_items source end N Is = record { read = λ at rest ends left. record { value = []; tokens = []; to = at; cut = done at; left = left; spelled = refl; is = tt } }
+-- an empty text, where no token spells the value
+pub nothing_prints : {A : Type 0} {N : A → List Token → Type 0} {Is : A → Type 0} (source : List ℕ) (end : Close) (value : A) → N value [] → Is value → Prints source end N Is []
+nothing_prints source end value spelled is = record { read = λ at rest ends left. record { value = value; tokens = []; to = at; cut = done at; left = left; spelled = spelled; is = is } }
 
 -- what may follow the first text is the second, with what may follow that
 abbrev Follows : Close → List ℕ → Close → Type 0
@@ -75,7 +76,7 @@ front end text (x ∷ xs) follows rest ends =
 pub many : {A X : Type 0} (source : List ℕ) (end : Close) (N : A → List Token → Type 0) (Is : A → X → Type 0) (text : X → List ℕ) (xs : List X)
     → ((x : X) → Has xs x → Prints source end N (λ (y : A). Is y x) (text x)) → ((x : X) → Follows end (text x) end)
     → Prints source end (Many N) (λ (ys : List A). AllZip Is ys xs) (flat_map text xs)
-many source end N Is text [] each follows = no_items source end N Is
+many source end N Is text [] each follows = nothing_prints source end [] refl tt
 many source end N Is text (x ∷ xs) each follows =
     one_more x xs (each x (inl refl)) (front end text xs follows) (many source end N Is text xs (λ y there. each y (inr there)) follows)
 
