@@ -1,9 +1,7 @@
 -- The printed ends of blocks are read as these.
-use Rattle.std.proofs.Common.{◌≡◌, ℕ, ◌<◌, ◌^◌, Bool, true, Option, Some, None, List, [], ◌∷◌, ◌++◌, codes, inl, inr, refl, arith}
-use Rattle.std.specs.Fmt.{decimal}
+use Rattle.std.proofs.Common.{◌≡◌, ℕ, ◌<◌, ◌^◌, true, Option, Some, List, [], ◌∷◌, ◌++◌, codes, inl, inr, refl, arith}
 use Rattle.std.proofs.lemmas.Bool.{and_parts}
 use Rattle.std.proofs.lemmas.List.{append_assoc}
-use Rattle.grammar.specs.Spelling.{Meant}
 use Rattle.pm_ops.specs.declared.code.Code.{Code}
 use Rattle.pm_ops.specs.Codes.{is_comparison_code}
 use Rattle.pm_wide.specs.declared.operand.Operand.{Operand}
@@ -11,10 +9,9 @@ use Rattle.gim_ast.specs.declared.function.Function.{Function}
 use Rattle.gim_ast.specs.declared.function.End.{End}
 use Rattle.gim_ast.specs.declared.function.End.TheVariants as ends
 use Rattle.gim_ast.specs.Functions.{operands_of_end, targets_of}
-use Rattle.gim_ast.specs.Printing.{line, jump_text, infix_text, condition_line, operand_text, sign_text, end_lines}
+use Rattle.gim_ast.specs.Printing.{line, jump_text, condition_line, operand_text, sign_text, end_lines}
 use Rattle.gim_ast.specs.WellFormed.{IsWellFormed, end_fits}
 use Rattle.gim_text.specs.declared.token.Span.{Span}
-use Rattle.gim_text.specs.declared.token.Token.{Token}
 use Rattle.gim_text.specs.declared.token.Keyword.TheVariants as keywords
 use Rattle.gim_text.specs.declared.token.Mark.TheVariants as marks
 use Rattle.gim_text.specs.declared.tree.EndText.{EndText}
@@ -22,7 +19,7 @@ use Rattle.gim_text.specs.declared.tree.EndText.TheVariants.{Goto, If, Return}
 use Rattle.gim_making.proofs.Membership.{Has}
 use Rattle.gim_statements.specs.Grammar.{SpellsJump, SpellsJumpEnd, SpellsEndIfAny}
 use Rattle.gim_round_trip.specs.ReadBack.{IsWithinLimits}
-use Rattle.gim_round_trip.proofs.Prints.{word_end, any_end, blank_end, Prints, joined, seen, blanks_before, blanks_after}
+use Rattle.gim_round_trip.proofs.Prints.{any_end, blank_end, Prints, joined, seen, blanks_before, blanks_after}
 use Rattle.gim_round_trip.proofs.Tokens.{block_word_prints, comparison_prints}
 use Rattle.gim_round_trip.proofs.Operands.{operand_prints}
 use Rattle.gim_round_trip.proofs.Sequences.{Quiet, lead, trail, told, quiet_mark, quiet_keyword, quiet_semicolon}

@@ -1,19 +1,15 @@
 -- The printed functions are read as these.
-use Rattle.std.proofs.Common.{◌≡◌, ℕ, Bool, true, false, Option, Some, None, List, [], ◌∷◌, ◌++◌, map, codes, inl, refl, sym}
+use Rattle.std.proofs.Common.{◌≡◌, ℕ, Bool, true, false, Some, None, List, [], ◌∷◌, ◌++◌, map, codes, inl, refl, sym}
 use Rattle.std.specs.List.{flat_map, prefix_len, AllZip}
 use Rattle.std.proofs.lemmas.Bool.{and_parts}
 use Rattle.std.proofs.lemmas.List.{append_assoc, append-nil}
-use Rattle.grammar.specs.Spelling.{Meant, Many}
 use Rattle.gim_ast.specs.declared.function.Function.{Function}
-use Rattle.gim_ast.specs.declared.function.Block.{Block}
 use Rattle.gim_ast.specs.declared.function.Decl.{Decl}
 use Rattle.gim_ast.specs.Identifiers.{is_identifier, is_word_byte}
-use Rattle.gim_ast.specs.Printing.{line, listed, type_text, declared_text, decl_line, block_text, signature_line, head_text, function_text}
+use Rattle.gim_ast.specs.Printing.{line, listed, type_text, declared_text, decl_line, block_text, head_text, function_text}
 use Rattle.gim_ast.specs.WellFormed.{IsWellFormed, ident_of}
-use Rattle.gim_text.specs.Meanings.{mark, identifier}
 use Rattle.gim_text.specs.Texts.{text_of}
 use Rattle.gim_text.specs.declared.token.Span.{Span}
-use Rattle.gim_text.specs.declared.token.Token.{Token}
 use Rattle.gim_text.specs.declared.token.Token.TheVariants as tokens
 use Rattle.gim_text.specs.declared.token.Keyword.TheVariants as keywords
 use Rattle.gim_text.specs.declared.token.Mark.TheVariants as marks
@@ -24,8 +20,8 @@ use Rattle.gim_lexer.specs.Separators.{separator_length}
 use Rattle.gim_lexer.specs.Tokens.{place, word_at, token_of_text}
 use Rattle.gim_lexer.specs.Words.{word_token}
 use Rattle.gim_making.proofs.Membership.{Has, has_left, has_right, has_map, all_has}
-use Rattle.gim_marks.specs.Grammar.{IsBalanced, none_left}
-use Rattle.gim_statements.specs.Grammar.{◌▸◌, SpellsBlock}
+use Rattle.gim_marks.specs.Grammar.{none_left}
+use Rattle.gim_statements.specs.Grammar.{SpellsBlock}
 use Rattle.gim_syntax.specs.Grammar.{SpellsTyped, SpellsDecl, SpellsParams, IsSsa, HoldsSsa, SpellsHead, SpellsParamsBetween, SpellsBody, SpellsFunction}
 use Rattle.gim_round_trip.specs.ReadBack.{IsWithinLimits}
 use Rattle.gim_round_trip.proofs.Prints.{Ends, any_end, word_end, Prints, joined, seen, blanks_before, blanks_after, token_prints}

@@ -1,11 +1,10 @@
 -- The printed lines of phis and statements are read as these.
-use Rattle.std.proofs.Common.{◌≡◌, ◌⊎◌, ℕ, ◌<◌, ◌^◌, Bool, true, false, cond, Option, Some, None, List, [], ◌∷◌, ◌++◌, codes, inl, inr, refl, sym, subst, arith}
+use Rattle.std.proofs.Common.{◌≡◌, ◌⊎◌, ℕ, ◌<◌, ◌^◌, Bool, true, false, cond, List, [], ◌∷◌, ◌++◌, codes, inl, inr, refl, sym, subst, arith}
 use Rattle.std.specs.Prelude.{not, ◌&&◌, ◌||◌}
 use Rattle.std.specs.Fmt.{decimal}
 use Rattle.std.specs.List.{flat_map, list_all, AllZip}
 use Rattle.std.proofs.lemmas.Bool.{and_parts, false≢true}
 use Rattle.std.proofs.lemmas.List.{append_assoc}
-use Rattle.grammar.specs.Spelling.{Meant}
 use Rattle.pm_wide.specs.Types.{Ty, same_type}
 use Rattle.pm_wide.specs.declared.operand.Operand.{Operand}
 use Rattle.pm_wide.proofs.Results.{same_type_is}
@@ -15,13 +14,10 @@ use Rattle.gim_ast.specs.declared.function.Phi.{Phi}
 use Rattle.gim_ast.specs.declared.function.Stmt.{Stmt}
 use Rattle.gim_ast.specs.declared.function.Decl.{Decl}
 use Rattle.gim_ast.specs.declared.function.NameRow.{NameRow}
-use Rattle.gim_ast.specs.Functions.{row_of, operands_of, operands_of_block, operands_of_phi, operands_of_stmt, operands_of_end}
+use Rattle.gim_ast.specs.Functions.{operands_of, operands_of_block, operands_of_phi, operands_of_stmt, operands_of_end}
 use Rattle.gim_ast.specs.Printing.{line, listed, assigned_text, type_of_name, operand_text, rhs_text, phi_argument_text, phi_line, stmt_line}
 use Rattle.gim_ast.specs.WellFormed.{IsWellFormed, is_type_of, is_empty, operand_holds, phi_fits, stmt_fits, rhs_fits, phi_holds, base_holds, declares_as, same_text}
 use Rattle.gim_ast.specs.Identifiers.{anonymous}
-use Rattle.gim_text.specs.Texts.{text_of}
-use Rattle.gim_text.specs.declared.token.Span.{Span}
-use Rattle.gim_text.specs.declared.token.Token.{Token}
 use Rattle.gim_text.specs.declared.token.Keyword.TheVariants as keywords
 use Rattle.gim_text.specs.declared.token.Mark.TheVariants as marks
 use Rattle.gim_text.specs.declared.tree.ArgText.{ArgText}
@@ -31,12 +27,12 @@ use Rattle.gim_making.proofs.Membership.{Has, has_left, has_right, has_map, has_
 use Rattle.gim_statements.specs.Grammar.{SpellsArg, SpellsArgs, SpellsItem}
 use Rattle.gim_round_trip.specs.ReadBack.{IsWithinLimits}
 use Rattle.gim_round_trip.proofs.Facts.{name_facts, each_operand_holds, each_block_fits, phi_row, stmt_row, phi_block_is_small}
-use Rattle.gim_round_trip.proofs.Prints.{word_end, any_end, Prints, joined, seen, sooner, blanks_before, blanks_after}
+use Rattle.gim_round_trip.proofs.Prints.{word_end, any_end, Prints, joined, seen, blanks_before, blanks_after}
 use Rattle.gim_round_trip.proofs.Tokens.{block_word_prints}
 use Rattle.gim_round_trip.proofs.Operands.{assigned_prints, operand_prints}
 use Rattle.gim_round_trip.proofs.Sequences.{lead, trail, told, comma_list, quiet_mark, quiet_keyword, quiet_assign, quiet_semicolon}
 use Rattle.gim_round_trip.proofs.Rights.{OperandsHold, right_prints}
-use Rattle.gim_round_trip.proofs.Writes.{WritesArg, WritesPhi, WritesStmt, WritesForm}
+use Rattle.gim_round_trip.proofs.Writes.{WritesArg, WritesPhi, WritesStmt}
 
 -- ---- what is known of the parts of a block
 

@@ -1,5 +1,5 @@
 -- The printed right sides are read as these.
-use Rattle.std.proofs.Common.{◌≡◌, ℕ, Bool, true, false, Option, Some, None, List, [], ◌∷◌, ◌++◌, map, codes, inl, inr, refl, sym, subst, ap, ◌∙◌}
+use Rattle.std.proofs.Common.{◌≡◌, ℕ, Bool, true, false, Option, Some, List, [], ◌∷◌, ◌++◌, map, codes, inl, inr, refl, sym, subst, ap}
 use Rattle.std.proofs.lemmas.Bool.{false≢true}
 use Rattle.std.proofs.lemmas.List.{append_assoc}
 use Rattle.grammar.specs.Spelling.{Meant}
@@ -28,14 +28,13 @@ use Rattle.gim_text.specs.declared.tree.RightText.{RightText}
 use Rattle.gim_text.specs.declared.tree.RightForm.{RightForm}
 use Rattle.gim_text.specs.declared.tree.RightForm.TheVariants.{Copy, Unary, Cast, Binary, Choice}
 use Rattle.gim_making.proofs.Membership.{Has}
-use Rattle.gim_types.specs.Grammar.{SpellsType}
-use Rattle.gim_statements.specs.Words.{prefix_code, infix_code, comparison_code, call_code}
-use Rattle.gim_statements.specs.Grammar.{◌▸◌, AMark, AKeyword, SpellsOperand, MayStandUnder, SpellsForm, SpellsRight}
+use Rattle.gim_statements.specs.Words.{prefix_code, call_code}
+use Rattle.gim_statements.specs.Grammar.{◌▸◌, AMark, SpellsOperand, MayStandUnder, SpellsForm, SpellsRight}
 use Rattle.gim_round_trip.specs.ReadBack.{IsWithinLimits}
-use Rattle.gim_round_trip.proofs.Prints.{Close, any_end, word_end, blank_end, Prints, joined, seen, sooner, blanks_before, blanks_after}
+use Rattle.gim_round_trip.proofs.Prints.{Close, any_end, word_end, Prints, joined, seen, sooner, blanks_before, blanks_after}
 use Rattle.gim_round_trip.proofs.Tokens.{keyword_text, keyword_prints, mark_prints, is_infix, sign_prints}
 use Rattle.gim_round_trip.proofs.Operands.{type_prints, operand_prints, negated_prints}
-use Rattle.gim_round_trip.proofs.Sequences.{Quiet, lead, trail, told, quiet_mark, quiet_keyword}
+use Rattle.gim_round_trip.proofs.Sequences.{Quiet, lead, trail, told, quiet_mark}
 use Rattle.gim_round_trip.proofs.Writes.{WritesOperand, WritesForm}
 
 -- ---- operands and types

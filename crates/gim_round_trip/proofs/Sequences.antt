@@ -1,6 +1,6 @@
 -- How the texts of a grammar's parts are put together: one behind the other, many, and behind blanks.
 use Rattle.std.proofs.Common.{◌≡◌, ℕ, true, List, [], ◌∷◌, ◌++◌, codes, inl, inr, refl, sym, subst}
-use Rattle.std.specs.List.{list_all, flat_map, AllZip}
+use Rattle.std.specs.List.{flat_map, AllZip}
 use Rattle.std.proofs.lemmas.List.{append_assoc}
 use Rattle.grammar.specs.Spelling.{Many, Meant}
 use Rattle.gim_ast.specs.Printing.{listed}
@@ -10,7 +10,6 @@ use Rattle.gim_text.specs.declared.token.Token.{Token}
 use Rattle.gim_text.specs.declared.token.Keyword.{Keyword}
 use Rattle.gim_text.specs.declared.token.Mark.{Mark}
 use Rattle.gim_text.specs.declared.token.Mark.TheVariants as marks
-use Rattle.gim_lexer.specs.Separators.{is_space}
 use Rattle.gim_lexer.specs.Cuts.{done}
 use Rattle.gim_lexer.proofs.Cutting.{cuts_further}
 use Rattle.gim_making.proofs.Membership.{Has}
