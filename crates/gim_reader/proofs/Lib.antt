@@ -1,3 +1,4 @@
 pub mod OneFile
 pub mod ReaderLemmas
 pub mod WrittenLemmas
+pub mod OneAnswer

@@ -3,6 +3,8 @@
 //! docs/GIMPLE.md has the text that is read, and its faults.
 #![tactic(auto)]
 
+pub mod laws;
+
 ghost use Rattle.std.specs.Prelude.{◌≡◌, ◌≤◌, List, IfOk, IfErr, OnOk, MatchResult, None, length};
 ghost use Rattle.std.specs.List.{AllByRecursion, AllZip};
 ghost use Rattle.gim_ast.specs.declared.function.Function.{Function};

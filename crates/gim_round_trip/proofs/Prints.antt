@@ -48,35 +48,35 @@ pub joined : {A B : Type 0} {N : A → List Token → Type 0} {M : B → List To
     → Prints source first N Is a → ((rest : List ℕ) → Ends first (b ++ rest)) → Prints source last M Js b
     → Prints source last (λ (x : A × B). N x.0 ▸ M x.1) (λ x. Is x.0 × Js x.1) (a ++ b)
 joined {source = source} {a = a} {b = b} one follows two = record {
-    read = λ at rest ends left.
+  read = λ at rest ends left.
       let r = one.read at (b ++ rest) (follows rest) (subst (Left source at) (append_assoc a b rest) left) in
       let s = two.read r.to rest ends r.left in
       record {
-          value = (r.value, s.value);
-          tokens = r.tokens ++ s.tokens;
-          to = s.to;
-          cut = cuts_further source at r.to s.to r.tokens s.tokens r.cut s.cut;
-          left = s.left;
-          spelled = (r.tokens, s.tokens, r.spelled, s.spelled, refl);
-          is = (r.is, s.is);
+        value = (r.value, s.value);
+        tokens = r.tokens ++ s.tokens;
+        to = s.to;
+        cut = cuts_further source at r.to s.to r.tokens s.tokens r.cut s.cut;
+        left = s.left;
+        spelled = (r.tokens, s.tokens, r.spelled, s.spelled, refl);
+        is = (r.is, s.is);
       };
-    }
+}
 
 -- the same read as another value
 pub seen : {A B : Type 0} {N : A → List Token → Type 0} {M : B → List Token → Type 0} {Is : A → Type 0} {Js : B → Type 0} {source : List ℕ} {end : Close} {a : List ℕ}
     → Prints source end N Is a → (f : A → B) → ((x : A) (w : List Token) → Is x → N x w → M (f x) w) → ((x : A) → Is x → Js (f x)) → Prints source end M Js a
 seen one f spells holds = record {
-    read = λ at rest ends left.
+  read = λ at rest ends left.
       let r = one.read at rest ends left in
       record { value = f r.value; tokens = r.tokens; to = r.to; cut = r.cut; left = r.left; spelled = spells r.value r.tokens r.is r.spelled; is = holds r.value r.is };
-    }
+}
 
 -- what may be followed by anything may be followed by less
 pub sooner : {A : Type 0} {N : A → List Token → Type 0} {Is : A → Type 0} {source : List ℕ} {end : Close} {a : List ℕ} → Prints source any_end N Is a → Prints source end N Is a
 sooner one = record {
-    read = λ at rest ends left.
-        one.read at rest tt left;
-    }
+  read = λ at rest ends left.
+      one.read at rest tt left;
+}
 
 -- ---- white space
 
@@ -90,8 +90,8 @@ blanks_cut source at [] rest h left = let e : at + 0 ≡ at = omega arith in sub
 blanks_cut source at (b ∷ blanks) rest h left =
     let p = and_parts (is_space b) (list_all is_space blanks) h in
     let here : separator_at source at ≡ Some (at + 1) =
-        ap (λ text. option_map (λ n. at + n) (separator_length (line_begins source at) text)) left.is
-        ∙ ap (option_map (λ n. at + n)) (space_separates (line_begins source at) b (blanks ++ rest) p.0) in
+    ap (λ text. option_map (λ n. at + n) (separator_length (line_begins source at) text)) left.is
+    ∙ ap (option_map (λ n. at + n)) (space_separates (line_begins source at) b (blanks ++ rest) p.0) in
     let next : Left source (at + 1) (blanks ++ rest) = behind source at (b ∷ []) (blanks ++ rest) left in
     let e : at + 1 + length blanks ≡ at + length (b ∷ blanks) = omega arith in
     separator at (at + 1) (at + length (b ∷ blanks)) [] here (subst (Cuts source (at + 1) []) e (blanks_cut source (at + 1) blanks rest p.1 next))
@@ -99,28 +99,36 @@ blanks_cut source at (b ∷ blanks) rest h left =
 pub blanks_before : {A : Type 0} {N : A → List Token → Type 0} {Is : A → Type 0} {source : List ℕ} {end : Close} {a : List ℕ} (blanks : List ℕ)
     → list_all is_space blanks ≡ true → Prints source end N Is a → Prints source end N Is (blanks ++ a)
 blanks_before {source = source} {a = a} blanks all one = record {
-    read = λ at rest ends left.
+  read = λ at rest ends left.
       let whole : Left source at (blanks ++ (a ++ rest)) = subst (Left source at) (append_assoc blanks a rest) left in
       let r = one.read (at + length blanks) rest ends (behind source at blanks (a ++ rest) whole) in
       record {
-          value = r.value; tokens = r.tokens; to = r.to;
-          cut = cuts_further source at (at + length blanks) r.to [] r.tokens (blanks_cut source at blanks (a ++ rest) all whole) r.cut;
-          left = r.left; spelled = r.spelled; is = r.is;
+        value = r.value;
+        tokens = r.tokens;
+        to = r.to;
+        cut = cuts_further source at (at + length blanks) r.to [] r.tokens (blanks_cut source at blanks (a ++ rest) all whole) r.cut;
+        left = r.left;
+        spelled = r.spelled;
+        is = r.is;
       };
-    }
+}
 
 pub blanks_after : {A : Type 0} {N : A → List Token → Type 0} {Is : A → Type 0} {source : List ℕ} {first last : Close} {a : List ℕ} (blanks : List ℕ)
     → list_all is_space blanks ≡ true → ((rest : List ℕ) → Ends first (blanks ++ rest)) → Prints source first N Is a → Prints source last N Is (a ++ blanks)
 blanks_after {source = source} {a = a} blanks all follows one = record {
-    read = λ at rest ends left.
+  read = λ at rest ends left.
       let r = one.read at (blanks ++ rest) (follows rest) (subst (Left source at) (append_assoc a blanks rest) left) in
       record {
-          value = r.value; tokens = r.tokens; to = r.to + length blanks;
-          cut = subst (λ ts. Cuts source at ts (r.to + length blanks)) (append-nil r.tokens)
-              (cuts_further source at r.to (r.to + length blanks) r.tokens [] r.cut (blanks_cut source r.to blanks rest all r.left));
-          left = behind source r.to blanks rest r.left; spelled = r.spelled; is = r.is;
+        value = r.value;
+        tokens = r.tokens;
+        to = r.to + length blanks;
+        cut = subst (λ ts. Cuts source at ts (r.to + length blanks)) (append-nil r.tokens)
+            (cuts_further source at r.to (r.to + length blanks) r.tokens [] r.cut (blanks_cut source r.to blanks rest all r.left));
+        left = behind source r.to blanks rest r.left;
+        spelled = r.spelled;
+        is = r.is;
       };
-    }
+}
 
 -- ---- one token
 
@@ -133,18 +141,20 @@ pub token_prints : {A : Type 0} {N : A → List Token → Type 0} {Is : A → Ty
     → ((at : ℕ) → text_of source (place at (length bs)) ≡ bs → Is (value at))
     → Prints source end N Is bs
 token_prints source end bs make value apart begins stands spells holds = record {
-    read = λ at rest ends left.
+  read = λ at rest ends left.
       let none : separator_at source at ≡ None =
-            ap (λ text. option_map (λ n. at + n) (separator_length (line_begins source at) text)) left.is
-            ∙ ap (option_map (λ n. at + n)) (apart (line_begins source at) rest ends) in
+      ap (λ text. option_map (λ n. at + n) (separator_length (line_begins source at) text)) left.is
+      ∙ ap (option_map (λ n. at + n)) (apart (line_begins source at) rest ends) in
       let some : token_at source at ≡ Some (make at) = ap (token_of_text at) left.is ∙ begins at rest ends in
       let to : (span_of (make at)).to ≡ at + length bs = ap (λ (s : Span). s.to) (stands at) in
       let rest_cut : Cuts source (span_of (make at)).to [] (at + length bs) = subst (λ n. Cuts source n [] (at + length bs)) (sym to) (done (at + length bs)) in
       record {
-          value = value at; tokens = make at ∷ []; to = at + length bs;
-          cut = token at (at + length bs) (make at) [] none some rest_cut;
-          left = behind source at bs rest left;
-          spelled = spells at;
-          is = holds at (text_there source at bs rest left);
+        value = value at;
+        tokens = make at ∷ [];
+        to = at + length bs;
+        cut = token at (at + length bs) (make at) [] none some rest_cut;
+        left = behind source at bs rest left;
+        spelled = spells at;
+        is = holds at (text_there source at bs rest left);
       };
-    }
+}

@@ -6,3 +6,5 @@
 #![tactic(auto)]
 
 pub mod laws;
+#[cfg(test)]
+mod tests;

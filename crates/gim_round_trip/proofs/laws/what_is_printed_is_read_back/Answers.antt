@@ -1,0 +1,5 @@
+use Rattle.gim_round_trip.proofs.RoundTrip.{read_back}
+use Rattle.gim_round_trip.proofs.laws.what_is_printed_is_read_back.Goals as goal
+
+pub returns : goal.returns
+returns c = read_back
