@@ -20,8 +20,8 @@ use Rattle.gim_statements.specs.Grammar.{◌▸◌, SpellsItem, SpellsEndIfAny, 
 use Rattle.gim_round_trip.specs.ReadBack.{IsWithinLimits}
 use Rattle.gim_round_trip.proofs.Facts.{each_block_fits, number_is_small, target_is_small}
 use Rattle.gim_round_trip.proofs.Prints.{any_end, Prints, joined, seen, blanks_before}
-use Rattle.gim_round_trip.proofs.Tokens.{keyword_prints, number_prints}
-use Rattle.gim_round_trip.proofs.Sequences.{Quiet, lead, told, many, quiet_mark}
+use Rattle.gim_round_trip.proofs.Tokens.{keyword_prints, number_prints, a_mark_prints}
+use Rattle.gim_round_trip.proofs.Sequences.{Quiet, lead, told, many}
 use Rattle.gim_round_trip.proofs.Lines.{phi_prints, stmt_prints, end_operands_hold}
 use Rattle.gim_round_trip.proofs.Ends.{end_prints}
 use Rattle.gim_round_trip.proofs.Writes.{WritesPhi, WritesStmt, WritesEnd, WritesBlock}
@@ -67,9 +67,9 @@ block_prints source f block well limits there =
     let small = number_is_small f limits block there in
     let number : block.number < 2 ^ 64 = omega (arith, small) in
     let lines = blanks_before (10 ∷ []) refl (lines_print source f block well limits there) in
-    let note : Quiet source any_end SpellsNote (codes ")") = seen (quiet_mark source marks.Close refl) (λ u. u) (λ u w is h. inl h) (λ u is. is) in
-    let noted = lead note (λ rest. tt) (lead (quiet_mark source marks.Colon refl) (λ rest. tt) lines) in
-    let opened = lead (quiet_mark source marks.Open refl) (λ rest. tt) (joined (number_prints source block.number number) (λ rest. refl) noted) in
+    let note : Quiet source any_end SpellsNote (codes ")") = seen (a_mark_prints source marks.Close refl) (λ u. u) (λ u w is h. inl h) (λ u is. is) in
+    let noted = lead note (λ rest. tt) (lead (a_mark_prints source marks.Colon refl) (λ rest. tt) lines) in
+    let opened = lead (a_mark_prints source marks.Open refl) (λ rest. tt) (joined (number_prints source block.number number) (λ rest. refl) noted) in
     let head = joined (keyword_prints source keywords.Block) (λ rest. refl) opened in
     let whole = told (block_whole (decimal block.number) (flat_map (phi_line f) block.phis) (flat_map (stmt_line f) block.stmts) (end_lines f block.end)) (blanks_before (10 ∷ codes "  ") refl head) in
     seen whole (λ x. record { head = x.0; number = x.1.0; items = x.1.1.0; end = x.1.1.1 }) (λ x w is h. h)

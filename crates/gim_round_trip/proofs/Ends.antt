@@ -20,9 +20,9 @@ use Rattle.gim_making.proofs.Membership.{Has}
 use Rattle.gim_statements.specs.Grammar.{SpellsJump, SpellsJumpEnd, SpellsEndIfAny}
 use Rattle.gim_round_trip.specs.ReadBack.{IsWithinLimits}
 use Rattle.gim_round_trip.proofs.Prints.{any_end, blank_end, Prints, joined, seen, blanks_before, blanks_after}
-use Rattle.gim_round_trip.proofs.Tokens.{block_word_prints, comparison_prints}
+use Rattle.gim_round_trip.proofs.Tokens.{block_word_prints, comparison_prints, a_mark_prints, a_keyword_prints}
 use Rattle.gim_round_trip.proofs.Operands.{operand_prints}
-use Rattle.gim_round_trip.proofs.Sequences.{Quiet, lead, trail, told, quiet_mark, quiet_keyword, quiet_semicolon}
+use Rattle.gim_round_trip.proofs.Sequences.{Quiet, lead, trail, told, quiet_semicolon}
 use Rattle.gim_round_trip.proofs.Rights.{OperandsHold, IsRead}
 use Rattle.gim_round_trip.proofs.Writes.{NamesBlock, WritesEnd}
 
@@ -31,7 +31,7 @@ jump_prints : (source : List ℕ) (n : ℕ) → n < 1000000000 → Prints source
 jump_prints source n small =
     let number : n < 2 ^ 64 = omega (arith, small) in
     let ended : Quiet source blank_end SpellsJumpEnd (codes ";") = seen (quiet_semicolon source) (λ u. u) (λ u w is h. inl h) (λ u is. is) in
-    lead (quiet_keyword source keywords.Goto) (λ rest. refl) (blanks_before (codes " ") refl (trail (block_word_prints source n number) (λ rest. refl) ended))
+    lead (a_keyword_prints source keywords.Goto) (λ rest. refl) (blanks_before (codes " ") refl (trail (block_word_prints source n number) (λ rest. refl) ended))
 
 goto_prints : (source : List ℕ) (f : Function) (to : ℕ) → to < 1000000000
     → Prints source any_end SpellsEndIfAny (λ (tree : Option EndText). WritesEnd source f tree (ends.Goto to)) (line (codes "  " ++ jump_text to))
@@ -42,7 +42,7 @@ goto_prints source f to small =
 return_prints : (source : List ℕ) (f : Function) (a : Operand) → IsRead source f a
     → Prints source any_end SpellsEndIfAny (λ (tree : Option EndText). WritesEnd source f tree (ends.Return a)) (line (codes "  return " ++ operand_text f a ++ codes ";"))
 return_prints source f a one =
-    let whole = lead (quiet_keyword source keywords.Return) (λ rest. refl) (blanks_before (codes " ") refl (trail one (λ rest. refl) (quiet_semicolon source))) in
+    let whole = lead (a_keyword_prints source keywords.Return) (λ rest. refl) (blanks_before (codes " ") refl (trail one (λ rest. refl) (quiet_semicolon source))) in
     let written = blanks_after (10 ∷ []) refl (λ rest. refl) (blanks_before (codes "  ") refl whole) in
     seen written (λ tree. Some (Return tree)) (λ tree w is h. h) (λ tree is. is)
 
@@ -56,11 +56,11 @@ if_prints : (source : List ℕ) (f : Function) (op : Code) (a b : Operand) (to o
       (condition_line f op a b ++ line (codes "    " ++ jump_text to) ++ line (codes "  else") ++ line (codes "    " ++ jump_text other))
 if_prints source f op a b to other compares one two small other_small =
     let last = blanks_after (10 ∷ []) refl (λ rest. refl) (blanks_before (10 ∷ codes "    ") refl (jump_prints source other other_small)) in
-    let else_jump = blanks_before (10 ∷ codes "  ") refl (lead (quiet_keyword source keywords.Else) (λ rest. refl) last) in
+    let else_jump = blanks_before (10 ∷ codes "  ") refl (lead (a_keyword_prints source keywords.Else) (λ rest. refl) last) in
     let jumps = joined (blanks_before (10 ∷ codes "    ") refl (jump_prints source to small)) (λ rest. refl) else_jump in
-    let second = joined two (λ rest. refl) (lead (quiet_mark source marks.Close refl) (λ rest. tt) jumps) in
+    let second = joined two (λ rest. refl) (lead (a_mark_prints source marks.Close refl) (λ rest. tt) jumps) in
     let first = joined one (λ rest. refl) (lead (comparison_prints source op compares) (λ rest. tt) second) in
-    let opened = lead (quiet_keyword source keywords.If) (λ rest. refl) (blanks_before (codes " ") refl (lead (quiet_mark source marks.Open refl) (λ rest. tt) first)) in
+    let opened = lead (a_keyword_prints source keywords.If) (λ rest. refl) (blanks_before (codes " ") refl (lead (a_mark_prints source marks.Open refl) (λ rest. tt) first)) in
     let whole = told (if_whole (operand_text f a) (sign_text op) (operand_text f b) (jump_text to) (jump_text other)) (blanks_before (codes "  ") refl opened) in
     seen whole (λ x. Some (If op x.0 x.1.0 x.1.1.0 x.1.1.1)) (λ x w is h. h) (λ x is. (refl, is.0, is.1.0, is.1.1.0, is.1.1.1))
 

@@ -1,33 +1,29 @@
 -- The printed functions are read as these.
-use Rattle.std.proofs.Common.{◌≡◌, ℕ, Bool, true, false, Some, None, List, [], ◌∷◌, ◌++◌, map, codes, inl, refl, sym}
-use Rattle.std.specs.List.{flat_map, prefix_len, AllZip}
+use Rattle.std.proofs.Common.{◌≡◌, ℕ, true, List, [], ◌∷◌, ◌++◌, map, codes, inl, refl, sym}
+use Rattle.std.specs.List.{flat_map, AllZip}
 use Rattle.std.proofs.lemmas.Bool.{and_parts}
 use Rattle.std.proofs.lemmas.List.{append_assoc, append-nil}
 use Rattle.gim_ast.specs.declared.function.Function.{Function}
 use Rattle.gim_ast.specs.declared.function.Decl.{Decl}
-use Rattle.gim_ast.specs.Identifiers.{is_identifier, is_word_byte}
+use Rattle.gim_ast.specs.Identifiers.{is_identifier}
 use Rattle.gim_ast.specs.Printing.{line, listed, type_text, declared_text, decl_line, block_text, head_text, function_text}
 use Rattle.gim_ast.specs.WellFormed.{IsWellFormed, ident_of}
 use Rattle.gim_text.specs.Texts.{text_of}
 use Rattle.gim_text.specs.declared.token.Span.{Span}
-use Rattle.gim_text.specs.declared.token.Token.TheVariants as tokens
 use Rattle.gim_text.specs.declared.token.Keyword.TheVariants as keywords
 use Rattle.gim_text.specs.declared.token.Mark.TheVariants as marks
 use Rattle.gim_text.specs.declared.tree.DeclText.{DeclText}
 use Rattle.gim_text.specs.declared.tree.BlockText.{BlockText}
 use Rattle.gim_text.specs.declared.tree.FunctionText.{FunctionText}
-use Rattle.gim_lexer.specs.Separators.{separator_length}
-use Rattle.gim_lexer.specs.Tokens.{place, word_at, token_of_text}
-use Rattle.gim_lexer.specs.Words.{word_token}
 use Rattle.gim_making.proofs.Membership.{Has, has_left, has_right, has_map, all_has}
 use Rattle.gim_marks.specs.Grammar.{none_left}
 use Rattle.gim_statements.specs.Grammar.{SpellsBlock}
-use Rattle.gim_syntax.specs.Grammar.{SpellsTyped, SpellsDecl, SpellsParams, IsSsa, HoldsSsa, SpellsHead, SpellsParamsBetween, SpellsBody, SpellsFunction}
+use Rattle.gim_syntax.specs.Grammar.{SpellsTyped, SpellsDecl, SpellsParams, HoldsSsa, SpellsHead, SpellsParamsBetween, SpellsBody, SpellsFunction}
 use Rattle.gim_round_trip.specs.ReadBack.{IsWithinLimits}
-use Rattle.gim_round_trip.proofs.Prints.{Ends, any_end, word_end, Prints, joined, seen, blanks_before, blanks_after, token_prints}
-use Rattle.gim_round_trip.proofs.Tokens.{identifier_prints, mark_prints}
+use Rattle.gim_round_trip.proofs.Prints.{any_end, word_end, Prints, joined, seen, blanks_before, blanks_after}
+use Rattle.gim_round_trip.proofs.Tokens.{identifier_prints, mark_prints, a_mark_prints, a_keyword_prints, ssa_word_prints}
 use Rattle.gim_round_trip.proofs.Operands.{type_prints, declared_prints}
-use Rattle.gim_round_trip.proofs.Sequences.{Quiet, lead, trail, told, many, nothing_prints, comma_list, quiet_mark, quiet_keyword, quiet_semicolon}
+use Rattle.gim_round_trip.proofs.Sequences.{Quiet, lead, trail, told, many, nothing_prints, comma_list, quiet_semicolon}
 use Rattle.gim_round_trip.proofs.Lines.{decl_type}
 use Rattle.gim_round_trip.proofs.Blocks.{block_prints}
 use Rattle.gim_round_trip.proofs.Writes.{WritesDecl, WritesBlock, Writes}
@@ -61,36 +57,19 @@ between_print : (source : List ℕ) (f : Function) → IsWellFormed f
     → Prints source any_end SpellsParamsBetween (λ (trees : List DeclText). AllZip (WritesDecl source) trees f.params) (codes " (" ++ (listed declared_text f.params ++ codes ")"))
 between_print source f well =
     let params = params_print source f.params (λ decl there. typed_prints source f decl well (has_left f.params f.decls decl there)) in
-    blanks_before (codes " ") refl (lead (quiet_mark source marks.Open refl) (λ rest. tt) (trail params (λ rest. refl) (quiet_mark source marks.Close refl)))
+    blanks_before (codes " ") refl (lead (a_mark_prints source marks.Open refl) (λ rest. tt) (trail params (λ rest. refl) (a_mark_prints source marks.Close refl)))
 
 -- ---- the head
 
-ssa_apart : (l : Bool) (rest : List ℕ) → separator_length l (codes "ssa" ++ rest) ≡ None
-unfolding separator_length
-ssa_apart true rest = refl
-ssa_apart false rest = refl
-
--- no byte of a word is at the front
-no_word_byte : (rest : List ℕ) → Ends word_end rest → prefix_len is_word_byte rest ≡ 0
-no_word_byte [] ends = refl
-no_word_byte (b ∷ rest) ends = rw ends refl
-
-ssa_begins : (at : ℕ) (rest : List ℕ) → Ends word_end rest → token_of_text at (codes "ssa" ++ rest) ≡ Some (tokens.Ssa (place at 3))
-unfolding token_of_text word_at word_token
-ssa_begins at rest ends = rw (no_word_byte rest ends) refl
-
-ssa_option_prints : (source : List ℕ) → Quiet source word_end IsSsa (codes "ssa")
-ssa_option_prints source = token_prints source word_end (codes "ssa") (λ at. tokens.Ssa (place at 3)) (λ at. tt) (λ l rest ends. ssa_apart l rest) ssa_begins (λ at. refl) (λ at. (place at 3, refl)) (λ at is. tt)
-
 options_print : (source : List ℕ) → Quiet source word_end HoldsSsa (codes "ssa")
-options_print source = seen (ssa_option_prints source) (λ u. u) (λ u w is h. ([], w, none_left refl, (w, [], h, none_left refl, sym (append-nil w)), refl)) (λ u is. is)
+options_print source = seen (ssa_word_prints source) (λ u. u) (λ u w is h. ([], w, none_left refl, (w, [], h, none_left refl, sym (append-nil w)), refl)) (λ u is. is)
 
 head_prints : (source : List ℕ) (f : Function) → IsWellFormed f
     → Prints source word_end (λ (name : Span). SpellsHead f.result name) (λ name. text_of source name ≡ f.name) (type_text f.result ++ (codes " __GIMPLE (ssa)" ++ (10 ∷ f.name)))
 head_prints source f well =
     let name = blanks_before (10 ∷ []) refl (identifier_prints source f.name (name_identifier f well)) in
-    let options = lead (options_print source) (λ rest. refl) (lead (quiet_mark source marks.Close refl) (λ rest. tt) name) in
-    let opened = lead (quiet_keyword source keywords.Gimple) (λ rest. refl) (blanks_before (codes " ") refl (lead (quiet_mark source marks.Open refl) (λ rest. tt) options)) in
+    let options = lead (options_print source) (λ rest. refl) (lead (a_mark_prints source marks.Close refl) (λ rest. tt) name) in
+    let opened = lead (a_keyword_prints source keywords.Gimple) (λ rest. refl) (blanks_before (codes " ") refl (lead (a_mark_prints source marks.Open refl) (λ rest. tt) options)) in
     lead (type_prints source f.result (and_parts _ _ well.types).0) (λ rest. refl) (blanks_before (codes " ") refl opened)
 
 -- ---- the body
@@ -106,7 +85,7 @@ body_prints source f well limits =
     let blocks = many source any_end SpellsBlock (WritesBlock source f) (block_text f) f.blocks (λ block there. block_prints source f block well limits there) (λ block rest ends. tt) in
     let close = blanks_after (10 ∷ []) refl (λ rest. tt) (mark_prints source marks.CloseBrace refl) in
     let whole = joined decls (λ rest. tt) (joined blocks (λ rest. tt) close) in
-    let opened = blanks_before (10 ∷ []) refl (lead (quiet_mark source marks.OpenBrace refl) (λ rest. tt) (blanks_before (10 ∷ []) refl whole)) in
+    let opened = blanks_before (10 ∷ []) refl (lead (a_mark_prints source marks.OpenBrace refl) (λ rest. tt) (blanks_before (10 ∷ []) refl whole)) in
     seen opened (λ body. body) (λ body w is h. h) (λ body is. (is.0, is.1.0))
 
 -- ---- functions

@@ -28,9 +28,9 @@ use Rattle.gim_statements.specs.Grammar.{SpellsArg, SpellsArgs, SpellsItem}
 use Rattle.gim_round_trip.specs.ReadBack.{IsWithinLimits}
 use Rattle.gim_round_trip.proofs.Facts.{name_facts, each_operand_holds, each_block_fits, phi_row, stmt_row, phi_block_is_small}
 use Rattle.gim_round_trip.proofs.Prints.{word_end, any_end, Prints, joined, seen, blanks_before, blanks_after}
-use Rattle.gim_round_trip.proofs.Tokens.{block_word_prints}
+use Rattle.gim_round_trip.proofs.Tokens.{block_word_prints, a_mark_prints, a_keyword_prints}
 use Rattle.gim_round_trip.proofs.Operands.{assigned_prints, operand_prints}
-use Rattle.gim_round_trip.proofs.Sequences.{lead, trail, told, comma_list, quiet_mark, quiet_keyword, quiet_assign, quiet_semicolon}
+use Rattle.gim_round_trip.proofs.Sequences.{lead, trail, told, comma_list, quiet_assign, quiet_semicolon}
 use Rattle.gim_round_trip.proofs.Rights.{OperandsHold, right_prints}
 use Rattle.gim_round_trip.proofs.Writes.{WritesArg, WritesPhi, WritesStmt}
 
@@ -92,7 +92,7 @@ arg_prints : (source : List ℕ) (f : Function) (arg : ℕ × Operand) → IsWel
     → Prints source word_end SpellsArg (λ (tree : ArgText). WritesArg source f tree arg) (phi_argument_text f arg)
 arg_prints source f arg well limits small holds =
     let number : arg.0 < 2 ^ 64 = omega (arith, small) in
-    let operand = lead (quiet_mark source marks.Colon refl) (λ rest. tt) (blanks_before (codes " ") refl (operand_prints source f arg.1 well limits holds)) in
+    let operand = lead (a_mark_prints source marks.Colon refl) (λ rest. tt) (blanks_before (codes " ") refl (operand_prints source f arg.1 well limits holds)) in
     let whole = joined (block_word_prints source arg.0 number) (λ rest. refl) operand in
     told (arg_whole (decimal arg.0) (operand_text f arg.1)) (seen whole (λ x. record { from = x.0; operand = x.1 }) (λ x w is h. h) (λ x is. is))
 
@@ -114,8 +114,8 @@ phi_prints source f block phi well limits there here =
     let holds = all_has (phi_holds f block.number) block.phis (all_has (λ (b : Block). list_all (phi_holds f b.number) b.phis) f.blocks (and_parts _ _ well.blocks).1 block there) phi here in
     let each = λ (arg : ℕ × Operand) (stands : Has phi.args arg). arg_prints source f arg well limits (phi_block_is_small f well limits block there phi here arg stands) (phi_operand_holds f block phi arg well there here stands) in
     let args = args_print source f phi.args (and_parts _ _ holds).1 each in
-    let ended = trail args (λ rest. refl) (lead (quiet_mark source marks.Close refl) (λ rest. tt) (quiet_semicolon source)) in
-    let opened = lead (quiet_keyword source keywords.Phi) (λ rest. refl) (blanks_before (codes " ") refl (lead (quiet_mark source marks.Open refl) (λ rest. tt) ended)) in
+    let ended = trail args (λ rest. refl) (lead (a_mark_prints source marks.Close refl) (λ rest. tt) (quiet_semicolon source)) in
+    let opened = lead (a_keyword_prints source keywords.Phi) (λ rest. refl) (blanks_before (codes " ") refl (lead (a_mark_prints source marks.Open refl) (λ rest. tt) ended)) in
     let assigned = lead (blanks_before (codes " ") refl (quiet_assign source)) (λ rest. refl) (blanks_before (codes " ") refl opened) in
     let whole = joined (assigned_prints source f phi.name row.0 well limits row.1) (λ rest. refl) assigned in
     let item = seen whole (λ x. items.Phi x.0 x.1) (λ x w is h. h) (λ x is. is) in

@@ -32,9 +32,9 @@ use Rattle.gim_statements.specs.Words.{prefix_code, call_code}
 use Rattle.gim_statements.specs.Grammar.{◌▸◌, AMark, SpellsOperand, MayStandUnder, SpellsForm, SpellsRight}
 use Rattle.gim_round_trip.specs.ReadBack.{IsWithinLimits}
 use Rattle.gim_round_trip.proofs.Prints.{Close, any_end, word_end, Prints, joined, seen, sooner, blanks_before, blanks_after}
-use Rattle.gim_round_trip.proofs.Tokens.{keyword_text, keyword_prints, mark_prints, is_infix, sign_prints}
+use Rattle.gim_round_trip.proofs.Tokens.{keyword_text, keyword_prints, mark_prints, is_infix, sign_prints, a_mark_prints}
 use Rattle.gim_round_trip.proofs.Operands.{type_prints, operand_prints, negated_prints}
-use Rattle.gim_round_trip.proofs.Sequences.{Quiet, lead, trail, told, quiet_mark}
+use Rattle.gim_round_trip.proofs.Sequences.{Quiet, lead, trail, told}
 use Rattle.gim_round_trip.proofs.Writes.{WritesOperand, WritesForm}
 
 -- ---- operands and types
@@ -128,8 +128,8 @@ FormIsRead source f t rhs text = Prints source word_end SpellsForm (λ (form : R
 cast_prints : (source : List ℕ) (f : Function) (t : Ty) (a : Operand) → is_type_of t ≡ true → IsRead source f a
     → FormIsRead source f t (sides.Op operations.Convert (a ∷ [])) ((codes "(" ++ type_text t ++ codes ") ") ++ operand_text f a)
 cast_prints source f t a is one =
-    let whole = lead (quiet_mark source marks.Open refl) (λ rest. tt)
-          (lead (type_prints source t is) (λ rest. refl) (lead (quiet_mark source marks.Close refl) (λ rest. tt) (blanks_before (codes " ") refl one))) in
+    let whole = lead (a_mark_prints source marks.Open refl) (λ rest. tt)
+          (lead (type_prints source t is) (λ rest. refl) (lead (a_mark_prints source marks.Close refl) (λ rest. tt) (blanks_before (codes " ") refl one))) in
     told (ap (λ bs. codes "(" ++ bs) (sym (append_assoc (type_text t) (codes ") ") (operand_text f a))))
       (seen whole (λ tree. Cast t tree) (λ tree w is h. h) (λ tree is. (refl, refl, is)))
 
@@ -179,8 +179,8 @@ call_prints : (source : List ℕ) (f : Function) (t : Ty) (op : Code) (word : Ke
     → FormIsRead source f t (sides.Op op (a ∷ b ∷ [])) (keyword_text word ++ codes " (" ++ operand_text f a ++ codes ", " ++ operand_text f b ++ codes ")")
 call_prints source f t op word a b means one two =
     let called = meant_as call_code op means (keyword_prints source word) in
-    let inner = joined one (λ rest. refl) (lead (quiet_mark source marks.Comma refl) (λ rest. tt) (blanks_before (codes " ") refl (trail two (λ rest. refl) (quiet_mark source marks.Close refl)))) in
-    let whole = lead called (λ rest. refl) (blanks_before (codes " ") refl (lead (quiet_mark source marks.Open refl) (λ rest. tt) inner)) in
+    let inner = joined one (λ rest. refl) (lead (a_mark_prints source marks.Comma refl) (λ rest. tt) (blanks_before (codes " ") refl (trail two (λ rest. refl) (a_mark_prints source marks.Close refl)))) in
+    let whole = lead called (λ rest. refl) (blanks_before (codes " ") refl (lead (a_mark_prints source marks.Open refl) (λ rest. tt) inner)) in
     told (call_whole (keyword_text word) (operand_text f a) (operand_text f b)) (sooner (seen whole (λ trees. Binary op trees.0 trees.1) (λ trees w is h. inr h) (λ trees is. (refl, is.0, is.1))))
 
 abbrev is_call : Code → Bool
@@ -221,8 +221,8 @@ choice_whole a b c = simp append_assoc
 choice_prints : (source : List ℕ) (f : Function) (t : Ty) (a b c : Operand) → IsRead source f a → IsRead source f b → IsRead source f c
     → FormIsRead source f t (sides.Op operations.Cond (a ∷ b ∷ c ∷ [])) (ternary_text f a b c)
 choice_prints source f t a b c one two three =
-    let question = blanks_before (codes " ") refl (quiet_mark source marks.Question refl) in
-    let colon = blanks_before (codes " ") refl (quiet_mark source marks.Colon refl) in
+    let question = blanks_before (codes " ") refl (a_mark_prints source marks.Question refl) in
+    let colon = blanks_before (codes " ") refl (a_mark_prints source marks.Colon refl) in
     let others = joined two (λ rest. refl) (lead colon (λ rest. tt) (blanks_before (codes " ") refl three)) in
     let whole = joined one (λ rest. refl) (lead question (λ rest. tt) (blanks_before (codes " ") refl others)) in
     told (choice_whole (operand_text f a) (operand_text f b) (operand_text f c))

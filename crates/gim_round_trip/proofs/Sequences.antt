@@ -1,22 +1,20 @@
 -- How the texts of a grammar's parts are put together: one behind the other, many, and behind blanks.
-use Rattle.std.proofs.Common.{◌≡◌, ℕ, true, List, [], ◌∷◌, ◌++◌, codes, inl, inr, refl, sym, subst}
+use Rattle.std.proofs.Common.{◌≡◌, ℕ, List, [], ◌∷◌, ◌++◌, codes, inl, inr, refl, sym, subst}
 use Rattle.std.specs.List.{flat_map, AllZip}
 use Rattle.std.proofs.lemmas.List.{append_assoc}
 use Rattle.grammar.specs.Spelling.{Many, Meant}
 use Rattle.gim_ast.specs.Printing.{listed}
-use Rattle.gim_text.specs.Meanings.{mark, keyword}
+use Rattle.gim_text.specs.Meanings.{mark}
 use Rattle.gim_text.specs.declared.token.Span.{Span}
 use Rattle.gim_text.specs.declared.token.Token.{Token}
-use Rattle.gim_text.specs.declared.token.Keyword.{Keyword}
-use Rattle.gim_text.specs.declared.token.Mark.{Mark}
 use Rattle.gim_text.specs.declared.token.Mark.TheVariants as marks
 use Rattle.gim_lexer.specs.Cuts.{done}
 use Rattle.gim_lexer.proofs.Cutting.{cuts_further}
 use Rattle.gim_making.proofs.Membership.{Has}
-use Rattle.gim_statements.specs.Grammar.{◌▸◌, AMark, AKeyword}
+use Rattle.gim_statements.specs.Grammar.{◌▸◌, AMark}
 use Rattle.gim_round_trip.proofs.Left.{Left}
-use Rattle.gim_round_trip.proofs.Prints.{Close, any_end, word_end, blank_end, Ends, Prints, joined, seen, blanks_before}
-use Rattle.gim_round_trip.proofs.Tokens.{keyword_text, keyword_prints, is_plain_mark, plain_mark_text, mark_prints, assign_prints, semicolon_prints}
+use Rattle.gim_round_trip.proofs.Prints.{Close, word_end, blank_end, Ends, Prints, joined, seen, blanks_before}
+use Rattle.gim_round_trip.proofs.Tokens.{a_mark_prints, assign_prints, semicolon_prints}
 
 -- tokens of which no value is kept
 abbrev pub Quiet : List ℕ → Close → (List Token → Type 0) → List ℕ → Type 0
@@ -79,12 +77,7 @@ many source end N Is text [] each follows = nothing_prints source end [] refl tt
 many source end N Is text (x ∷ xs) each follows =
     one_more x xs (each x (inl refl)) (front end text xs follows) (many source end N Is text xs (λ y there. each y (inr there)) follows)
 
--- ---- marks and words
-
-pub quiet_mark : (source : List ℕ) (m : Mark) → is_plain_mark m ≡ true → Quiet source any_end (AMark m) (plain_mark_text m)
-quiet_mark source m plain =
-    let one : Prints source any_end (λ (at : Span). Meant (mark m) at) (λ at. Unit {0}) (plain_mark_text m) = mark_prints source m plain in
-    seen one (λ at. tt) (λ at w is spelled. (at, spelled)) (λ at is. tt)
+-- ---- `=` and `;` at any place
 
 pub quiet_assign : (source : List ℕ) → Quiet source blank_end (AMark marks.Assign) (codes "=")
 quiet_assign source =
@@ -96,16 +89,11 @@ quiet_semicolon source =
     let one : Prints source blank_end (λ (at : Span). Meant (mark marks.Semicolon) at) (λ at. Unit {0}) (codes ";") = semicolon_prints source in
     seen one (λ at. tt) (λ at w is spelled. (at, spelled)) (λ at is. tt)
 
-pub quiet_keyword : (source : List ℕ) (k : Keyword) → Quiet source word_end (AKeyword k) (keyword_text k)
-quiet_keyword source k =
-    let one : Prints source word_end (λ (at : Span). Meant (keyword k) at) (λ at. Unit {0}) (keyword_text k) = keyword_prints source k in
-    seen one (λ at. tt) (λ at w is spelled. (at, spelled)) (λ at is. tt)
-
 -- ---- lists with commas
 
 after_comma : {A : Type 0} {N : A → List Token → Type 0} {Is : A → Type 0} {a : List ℕ} (source : List ℕ) → Prints source word_end N Is a
     → Prints source word_end (λ y. AMark marks.Comma ▸ N y) Is (codes ", " ++ a)
-after_comma source one = lead (quiet_mark source marks.Comma refl) (λ rest. tt) (blanks_before (codes " ") refl one)
+after_comma source one = lead (a_mark_prints source marks.Comma refl) (λ rest. tt) (blanks_before (codes " ") refl one)
 
 -- parts with a comma and a space between two: the first, and each other behind its comma
 pub comma_list : {A X : Type 0} (source : List ℕ) (N : A → List Token → Type 0) (Is : A → X → Type 0) (part : X → List ℕ) (x : X) (xs : List X)
