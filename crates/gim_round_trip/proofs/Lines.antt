@@ -112,7 +112,8 @@ phi_prints source f block phi well limits there here =
     let fits = each_block_fits f well block there in
     let row = phi_row f phi (all_has (phi_fits f) block.phis (and_parts _ _ (and_parts _ _ fits).0).0 phi here) in
     let holds = all_has (phi_holds f block.number) block.phis (all_has (λ (b : Block). list_all (phi_holds f b.number) b.phis) f.blocks (and_parts _ _ well.blocks).1 block there) phi here in
-    let each = λ (arg : ℕ × Operand) (stands : Has phi.args arg). arg_prints source f arg well limits (phi_block_is_small f well limits block there phi here arg stands) (phi_operand_holds f block phi arg well there here stands) in
+    let each = λ (arg : ℕ × Operand) (stands : Has phi.args arg).
+          arg_prints source f arg well limits (phi_block_is_small f well limits block there phi here arg stands) (phi_operand_holds f block phi arg well there here stands) in
     let args = args_print source f phi.args (and_parts _ _ holds).1 each in
     let ended = trail args (λ rest. refl) (lead (a_mark_prints source marks.Close refl) (λ rest. tt) (quiet_semicolon source)) in
     let opened = lead (a_keyword_prints source keywords.Phi) (λ rest. refl) (blanks_before (codes " ") refl (lead (a_mark_prints source marks.Open refl) (λ rest. tt) ended)) in

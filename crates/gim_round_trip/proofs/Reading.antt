@@ -41,7 +41,7 @@ left_at_end : (source : List ℕ) (at : ℕ) → Left source at [] → at ≡ le
 left_at_end source at left = let none : length (drop at source) ≡ 0 = ap length left.is in omega (arith, length-drop at source, left.within)
 
 pub text_reads : (fs : List Function) → AllByRecursion IsWellFormed fs → AllByRecursion IsWithinLimits fs → ReadsAs (text fs) fs
-text_reads fs well limits = 
+text_reads fs well limits =
     let source = text fs in
     let prints = file_prints source fs (each_has IsWellFormed fs well) (each_has IsWithinLimits fs limits) in
     let r = prints.read 0 [] tt (subst (Left source 0) (sym (append-nil source)) (left_at_start source)) in

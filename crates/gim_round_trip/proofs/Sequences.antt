@@ -2,10 +2,8 @@
 use Rattle.std.proofs.Common.{◌≡◌, ℕ, List, [], ◌∷◌, ◌++◌, codes, inl, inr, refl, sym, subst}
 use Rattle.std.specs.List.{flat_map, AllZip}
 use Rattle.std.proofs.lemmas.List.{append_assoc}
-use Rattle.grammar.specs.Spelling.{Many, Meant}
+use Rattle.grammar.specs.Spelling.{Many}
 use Rattle.gim_ast.specs.Printing.{listed}
-use Rattle.gim_text.specs.Meanings.{mark}
-use Rattle.gim_text.specs.declared.token.Span.{Span}
 use Rattle.gim_text.specs.declared.token.Token.{Token}
 use Rattle.gim_text.specs.declared.token.Mark.TheVariants as marks
 use Rattle.gim_lexer.specs.Cuts.{done}
@@ -20,11 +18,12 @@ use Rattle.gim_round_trip.proofs.Tokens.{a_mark_prints, assign_prints, semicolon
 abbrev pub Quiet : List ℕ → Close → (List Token → Type 0) → List ℕ → Type 0
 Quiet source end Q text = Prints source end (λ (u : Unit {0}). Q) (λ (u : Unit {0}). Unit {0}) text
 
--- tokens without a value before a part, and behind it
+-- tokens without a value before a part
 pub lead : {B : Type 0} {Q : List Token → Type 0} {M : B → List Token → Type 0} {Js : B → Type 0} {source : List ℕ} {first last : Close} {a b : List ℕ}
     → Quiet source first Q a → ((rest : List ℕ) → Ends first (b ++ rest)) → Prints source last M Js b → Prints source last (λ (y : B). Q ▸ M y) Js (a ++ b)
 lead one follows two = seen (joined one follows two) (λ x. x.1) (λ x w is spelled. spelled) (λ x is. is.1)
 
+-- and behind a part
 pub trail : {A : Type 0} {N : A → List Token → Type 0} {Q : List Token → Type 0} {Is : A → Type 0} {source : List ℕ} {first last : Close} {a b : List ℕ}
     → Prints source first N Is a → ((rest : List ℕ) → Ends first (b ++ rest)) → Quiet source last Q b → Prints source last (λ (x : A). N x ▸ Q) Is (a ++ b)
 trail one follows two = seen (joined one follows two) (λ x. x.0) (λ x w is spelled. spelled) (λ x is. is.0)
@@ -80,14 +79,10 @@ many source end N Is text (x ∷ xs) each follows =
 -- ---- `=` and `;` at any place
 
 pub quiet_assign : (source : List ℕ) → Quiet source blank_end (AMark marks.Assign) (codes "=")
-quiet_assign source =
-    let one : Prints source blank_end (λ (at : Span). Meant (mark marks.Assign) at) (λ at. Unit {0}) (codes "=") = assign_prints source in
-    seen one (λ at. tt) (λ at w is spelled. (at, spelled)) (λ at is. tt)
+quiet_assign source = seen (assign_prints source) (λ at. tt) (λ at w is spelled. (at, spelled)) (λ at is. tt)
 
 pub quiet_semicolon : (source : List ℕ) → Quiet source blank_end (AMark marks.Semicolon) (codes ";")
-quiet_semicolon source =
-    let one : Prints source blank_end (λ (at : Span). Meant (mark marks.Semicolon) at) (λ at. Unit {0}) (codes ";") = semicolon_prints source in
-    seen one (λ at. tt) (λ at w is spelled. (at, spelled)) (λ at is. tt)
+quiet_semicolon source = seen (semicolon_prints source) (λ at. tt) (λ at w is spelled. (at, spelled)) (λ at is. tt)
 
 -- ---- lists with commas
 
