@@ -1,11 +1,15 @@
+pub mod Blocks
 pub mod Constants
 pub mod Decimals
 pub mod Different
+pub mod Ends
 pub mod Facts
 pub mod Filtered
+pub mod Functions
 pub mod KnownNames
 pub mod Left
 pub mod LimitsSound
+pub mod Lines
 pub mod Made
 pub mod Marks
 pub mod Mentioned
@@ -23,9 +27,11 @@ pub mod Prints
 pub mod ReadFiles
 pub mod Reading
 pub mod Redefined
+pub mod Rights
 pub mod Rising
 pub mod RoundTrip
 pub mod Said
+pub mod Sequences
 pub mod ShapeSound
 pub mod Signs
 pub mod Tokens
