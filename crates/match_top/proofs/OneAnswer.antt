@@ -1,5 +1,5 @@
 -- The answer of a command on one GIMPLE file is one, unless memory runs out; and what `check` prints, it prints again.
-use Rattle.std.proofs.Common.{◌≡◌, ◌⊎◌, ℕ, ◌≤◌, Bool, true, false, List, [], ◌∷◌, ◌++◌, length, Option, Some, None, refl, sym, ap, subst, ◌∙◌, inl, inr, arith}
+use Rattle.std.proofs.Common.{◌≡◌, ◌⊎◌, ℕ, ◌≤◌, Bool, true, false, List, [], ◌∷◌, ◌++◌, length, codes, Option, Some, None, refl, sym, ap, subst, ◌∙◌, inl, inr, arith}
 use Rattle.std.specs.Prelude.{nat_le}
 use Rattle.std.specs.List.{AllByRecursion}
 use Rattle.std.proofs.lemmas.Bool.{le-leb}
@@ -123,9 +123,9 @@ unread_done status t a x wanted e zero = ap (λ (y : Answer). y.status) (sym (or
 check_done : (name : List ℕ) (g : Given) (s : Stage (List Function)) (a : Answer) → ReadsFunctions name g s → AfterFile checked s a → a.status ≡ 0 → Checks g a
 check_done name (Bytes source) (Reached fs) a p e zero = record { source = source; functions = fs; accepted = p; answered = or_memory_done a (checked fs) e zero }
 check_done name (Bytes source) (Ended x) a p e zero = absurd (refused_done source a x p e zero)
-check_done name TooLong (Ended x) a p e zero = absurd (omega (arith, unread_done 4 _ a x p e zero))
-check_done name Missing (Ended x) a p e zero = absurd (omega (arith, unread_done 5 _ a x p e zero))
-check_done name Unread (Ended x) a p e zero = absurd (omega (arith, unread_done 5 _ a x p e zero))
+check_done name TooLong (Ended x) a p e zero = absurd (omega (arith, unread_done 4 (codes "gimple:1:1: TooLarge") a x p e zero))
+check_done name Missing (Ended x) a p e zero = absurd (omega (arith, unread_done 5 (codes "missing: " ++ name) a x p e zero))
+check_done name Unread (Ended x) a p e zero = absurd (omega (arith, unread_done 5 (codes "read: " ++ name) a x p e zero))
 check_done name Unknown (Ended x) a p e zero = absurd (omega (arith, is_not_done a no_memory (e ∙ p) zero))
 check_done name TooLong (Reached fs) a p e zero = absurd p
 check_done name Missing (Reached fs) a p e zero = absurd p
@@ -141,7 +141,7 @@ again_from again fs b accepted works =
     by (one_answer again (Bytes (text fs)) checked (checked fs) b (record { stage = Reached fs; reads = accepted; after = inl refl }) works) where
       by : AreOne (checked fs) b → (b ≡ checked fs) ⊎ (b ≡ no_memory)
       by (inl e) = inl (sym e)
-      by (inr (inl e)) = absurd cc
+      by (inr (inl e)) = absurd (omega (arith, is_not_done (checked fs) no_memory e refl))
       by (inr (inr e)) = inr e
 
 given_whole : (limit : ℕ) (held : Option (List ℕ)) (bytes : List ℕ) → held ≡ Some bytes → length bytes ≤ limit → given_of limit held ≡ Bytes bytes
