@@ -156,7 +156,7 @@ word_spelled word span text = by (type_word_of word) (keyword_of word) refl refl
   by None (Some found) p q = q
   by None None p q = plain_spelled word span text p q
 
-letter_is_word : (b : ℕ) → is_letter b ≡ true → is_word_byte b ≡ true
+pub letter_is_word : (b : ℕ) → is_letter b ≡ true → is_word_byte b ≡ true
 letter_is_word b h = rw h refl
 
 word_front : (at b : ℕ) (text : List ℕ) → is_letter b ≡ true → Front at (b ∷ text) (word_at at (b ∷ text))

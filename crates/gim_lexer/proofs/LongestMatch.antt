@@ -22,7 +22,8 @@ use Rattle.gim_lexer.specs.Separators.{opens}
 use Rattle.gim_lexer.specs.Tokens.{place, is_inner, word_at, number_at, text_at, mark_from, mark_at, token_of_text}
 use Rattle.gim_lexer.specs.Spelled.{IsNumber, IsQuoted, Spells}
 use Rattle.gim_lexer.specs.Longest.{Covers, OpensComment, IsLongestMatch}
-use Rattle.gim_lexer.proofs.Fronts.{word_place}
+use Rattle.gim_lexer.proofs.Fronts.{word_place, letter_is_word}
+use Rattle.gim_lexer.proofs.NumberTexts.{letter_is_no_digit}
 
 -- ---- runs
 
@@ -46,9 +47,6 @@ one_more p b text h = rw (h, one-add) refl
 -- digits and then letters of suffixes
 number_run : List ℕ → ℕ
 number_run text = prefix_len is_digit text + prefix_len is_suffix_letter (drop (prefix_len is_digit text) text)
-
-letter_is_no_digit : (b : ℕ) → is_suffix_letter b ≡ true → is_digit b ≡ false
-letter_is_no_digit b h = grind (arith, nat_tests)
 
 letters_within : (text : List ℕ) (m : ℕ) → m ≤ length text → list_all is_suffix_letter (take m text) ≡ true → m ≤ number_run text
 unfolding number_run
@@ -121,7 +119,7 @@ digits_are_words (d ∷ digits) h =
     let parts = and_parts (is_digit d) (list_all is_digit digits) h in
     and_from (is_word_byte d) (list_all is_word_byte digits) (or_right (is_letter d) (is_digit d) parts.0) (digits_are_words digits parts.1)
 
-number_is_word : (bytes : List ℕ) → is_number_text bytes ≡ true → list_all is_word_byte bytes ≡ true
+pub number_is_word : (bytes : List ℕ) → is_number_text bytes ≡ true → list_all is_word_byte bytes ≡ true
 number_is_word [] h = refl
 number_is_word (b ∷ []) h = digits_are_words (b ∷ []) (and_from (is_digit b) true h refl)
 number_is_word (b ∷ c ∷ bytes) h =
@@ -152,12 +150,9 @@ word_end : (at : ℕ) (text : List ℕ) → (span_of (word_at at text)).to ≡ a
 unfolding word_at
 word_end at text = ap (λ (s : Span). s.to) (word_place (take (prefix_len is_word_byte text) text) (place at (prefix_len is_word_byte text)))
 
-word_begins : (at b : ℕ) (text : List ℕ) → is_letter b ≡ true → token_of_text at (b ∷ text) ≡ Some (word_at at (b ∷ text))
+pub word_begins : (at b : ℕ) (text : List ℕ) → is_letter b ≡ true → token_of_text at (b ∷ text) ≡ Some (word_at at (b ∷ text))
 unfolding token_of_text
 word_begins at b text h = rw h refl
-
-letter_is_word : (b : ℕ) → is_letter b ≡ true → is_word_byte b ≡ true
-letter_is_word b h = rw h refl
 
 word_reaches : (at : ℕ) (text : List ℕ) (m : ℕ) → m ≤ length text → is_word_text (take m text) ≡ true → Reaches at text m
 word_reaches at text zero le h = absurd (false≢true h)
@@ -171,10 +166,10 @@ word_reaches at (b ∷ text) (suc m) le h =
       far = omega (arith, within_run is_word_byte (b ∷ text) (suc m) le all, word_end at (b ∷ text));
     }
 
-digit_is_no_letter : (b : ℕ) → is_digit b ≡ true → is_letter b ≡ false
+pub digit_is_no_letter : (b : ℕ) → is_digit b ≡ true → is_letter b ≡ false
 digit_is_no_letter b h = grind (arith, nat_tests)
 
-number_begins : (at b : ℕ) (text : List ℕ) → is_digit b ≡ true → token_of_text at (b ∷ text) ≡ Some (number_at at (b ∷ text))
+pub number_begins : (at b : ℕ) (text : List ℕ) → is_digit b ≡ true → token_of_text at (b ∷ text) ≡ Some (number_at at (b ∷ text))
 unfolding token_of_text
 number_begins at b text h = rw (digit_is_no_letter b h, h) refl
 

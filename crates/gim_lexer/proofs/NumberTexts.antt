@@ -21,10 +21,10 @@ use Rattle.gim_lexer.specs.Spelled.{Spells, AllStandIn}
 use Rattle.gim_lexer.specs.Meant.{IsNumberText, MeansItsText, AllMeanTheirTexts}
 use Rattle.gim_lexer.proofs.Placing.{tokens_stand}
 
-letter_is_no_digit : (b : ℕ) → is_suffix_letter b ≡ true → is_digit b ≡ false
+pub letter_is_no_digit : (b : ℕ) → is_suffix_letter b ≡ true → is_digit b ≡ false
 letter_is_no_digit b h = grind (arith, nat_tests)
 
-front_digits : (digits suffix : List ℕ) → list_all is_digit digits ≡ true → list_all is_suffix_letter suffix ≡ true → leading_digits (digits ++ suffix) ≡ digits
+pub front_digits : (digits suffix : List ℕ) → list_all is_digit digits ≡ true → list_all is_suffix_letter suffix ≡ true → leading_digits (digits ++ suffix) ≡ digits
 front_digits [] [] ds ls = refl
 front_digits [] (b ∷ suffix) ds ls = rw (letter_is_no_digit b (and_parts (is_suffix_letter b) (list_all is_suffix_letter suffix) ls).0) refl
 front_digits (d ∷ digits) suffix ds ls =

@@ -75,15 +75,15 @@ cons_later : {Y : Type 0} (o : Option Y) (ys : List Y) (y : Y) → Has ys y → 
 cons_later None ys y h = h
 cons_later (Some z) ys y h = inr h
 
-with_here : {X Y : Type 0} (f : X → Option Y) (xs : List X) (x : X) (y : Y) → Has xs x → f x ≡ Some y → Has (filter_map f xs) y
+pub with_here : {X Y : Type 0} (f : X → Option Y) (xs : List X) (x : X) (y : Y) → Has xs x → f x ≡ Some y → Has (filter_map f xs) y
 with_here f [] x y h e = absurd h
 with_here f (z ∷ xs) x y (inl same) e = let is : f z ≡ Some y = ap f same ∙ e in subst (λ o. Has (cons_option o (filter_map f xs)) y) (sym is) (inl refl)
 with_here f (z ∷ xs) x y (inr h) e = cons_later (f z) (filter_map f xs) y (with_here f xs x y h e)
 
-abbrev version_digits : NameRow → List ℕ
+abbrev pub version_digits : NameRow → List ℕ
 version_digits row = decimal row.version
 
-row_digits : (source : List ℕ) (tree : FunctionText) (names : List NameRow) → KeepsNames source tree → AreSmall source tree → AreNames (named_rows source tree) names → (row : NameRow) → Has names row
+pub row_digits : (source : List ℕ) (tree : FunctionText) (names : List NameRow) → KeepsNames source tree → AreSmall source tree → AreNames (named_rows source tree) names → (row : NameRow) → Has names row
     → Has (versions_of source (places_of source tree)) (version_digits row) × (number_of (version_digits row) ≡ row.version)
 row_digits source tree names kept small are row there =
     let p = row_place source tree kept small row (name_is_row source tree names are row there) in
@@ -93,7 +93,7 @@ row_digits source tree names kept small are row there =
     let said : version_at source (Name p.0.at) ≡ Some f.digits = ap (λ o. option_map (λ (x : List ℕ × List ℕ). x.1) o) f.parts in
     (subst (Has (versions_of source (places_of source tree))) digits (with_here (version_at source) (places_of source tree) (Name p.0.at) f.digits (name_is_place source tree p.0 p.1) said), ap number_of (sym digits) ∙ version)
 
-all_by : {X : Type 0} (P : X → Type 0) (xs : List X) → ((x : X) → Has xs x → P x) → AllByRecursion P xs
+pub all_by : {X : Type 0} (P : X → Type 0) (xs : List X) → ((x : X) → Has xs x → P x) → AllByRecursion P xs
 all_by P [] h = tt
 all_by P (x ∷ xs) h = (h x (inl refl), all_by P xs (λ y there. h y (inr there)))
 
@@ -115,7 +115,7 @@ distinct_digits (row ∷ rows) up h =
       distinct_digits rows p.1 (λ x there. h x (inr there)),
     )
 
-few_names : (source : List ℕ) (tree : FunctionText) (names : List NameRow) → KeepsNames source tree → AreSmall source tree → KeepsLimits source tree → AreNames (named_rows source tree) names → length names ≤ 20000
+pub few_names : (source : List ℕ) (tree : FunctionText) (names : List NameRow) → KeepsNames source tree → AreSmall source tree → KeepsLimits source tree → AreNames (named_rows source tree) names → length names ≤ 20000
 few_names source tree names kept small limits are =
     let versions = versions_of source (places_of source tree) in
     let digits = map version_digits names in

@@ -1,5 +1,5 @@
 -- A file stands for one list of functions, or has one first fault, and never both.
-use Rattle.std.proofs.Common.{◌≡◌, ◌⊎◌, ℕ, ◌<◌, ◌≤◌, Option, Some, None, List, [], ◌∷◌, ◌++◌, length, Result, Ok, Err, refl, sym, ap, subst, ◌∙◌, arith, inl, inr}
+use Rattle.std.proofs.Common.{◌≡◌, ℕ, ◌<◌, ◌≤◌, Option, Some, None, List, [], ◌∷◌, ◌++◌, length, Result, Ok, refl, sym, ap, subst, ◌∙◌, arith, inl, inr}
 use Rattle.std.specs.List.{AllZip}
 use Rattle.std.proofs.lemmas.List.{append_assoc, append-nil}
 use Rattle.grammar.specs.Spelling.{Spelling, Begins}
@@ -12,7 +12,6 @@ use Rattle.gim_text.specs.declared.fault.Part.{Part}
 use Rattle.gim_text.specs.declared.fault.Part.TheVariants.{Outside}
 use Rattle.gim_text.specs.declared.token.Token.{Token}
 use Rattle.gim_text.specs.declared.tree.FunctionText.{FunctionText}
-use Rattle.gim_lexer.specs.Cuts.{AreTokens}
 use Rattle.gim_lexer.specs.Faults.{lex_fault}
 use Rattle.gim_lexer.proofs.Cutting.{same_tokens, no_tokens, one_fault as one_lex_fault}
 use Rattle.gim_syntax.specs.Grammar.{SpellsFile}
@@ -20,7 +19,7 @@ use Rattle.gim_syntax.specs.Readers.{file_at}
 use Rattle.gim_syntax.specs.SyntaxFaults.{IsSyntaxFault, syntax_fault}
 use Rattle.gim_syntax.proofs.FileExact.{AnyToken, file_reads}
 use Rattle.gim_making.specs.Standing.{StandsFor}
-use Rattle.gim_reader.specs.Files.{file_limit, rules_fault, FromTokens, IsFile, size_fault, IsTokensFault, of_syntax, of_rules, IsFileFault, of_size, of_lexing, of_tokens}
+use Rattle.gim_reader.specs.Files.{file_limit, rules_fault, FromTokens, IsFile, IsTokensFault, of_syntax, of_rules, IsFileFault, of_size, of_lexing, of_tokens}
 use Rattle.gim_reader.proofs.OneFile.{stand_once}
 
 -- ---- tokens

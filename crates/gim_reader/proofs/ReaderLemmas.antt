@@ -79,7 +79,7 @@ second_none : (a b : Option GimpleFault) → or_fault a b ≡ None → b ≡ Non
 second_none None b e = e
 second_none (Some fault) b e = absurd cc
 
-sound : (source : List ℕ) (tokens : List Token) (trees : List FunctionText) → length source ≤ file_limit → AreTokens source tokens → SpellsFile trees tokens → rules_fault source trees ≡ None → IsSound source trees
+pub sound : (source : List ℕ) (tokens : List Token) (trees : List FunctionText) → length source ≤ file_limit → AreTokens source tokens → SpellsFile trees tokens → rules_fault source trees ≡ None → IsSound source trees
 unfolding rules_fault
 sound source tokens trees within are spelled kept =
     let names = names_fault source trees in

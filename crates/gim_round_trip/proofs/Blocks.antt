@@ -45,13 +45,13 @@ WritesLines source f block x = (phi_items : List ItemText) × (stmt_items : List
 
 lines_print : (source : List ℕ) (f : Function) (block : Block) → IsWellFormed f → IsWithinLimits f → Has f.blocks block
     → Prints source any_end (λ (x : List ItemText × Option EndText). Many SpellsItem x.0 ▸ SpellsEndIfAny x.1) (WritesLines source f block)
-      (flat_map (phi_line f) block.phis ++ (flat_map (stmt_line f) block.stmts ++ end_lines f block.end))
+    (flat_map (phi_line f) block.phis ++ (flat_map (stmt_line f) block.stmts ++ end_lines f block.end))
 lines_print source f block well limits there =
     let phis = many source any_end SpellsItem (WritesPhi source f) (phi_line f) block.phis (λ phi here. phi_prints source f block phi well limits there here) (λ phi rest ends. tt) in
     let stmts = many source any_end SpellsItem (WritesStmt source f) (stmt_line f) block.stmts (λ stmt here. stmt_prints source f block stmt well limits there here) (λ stmt rest ends. tt) in
     let end = end_prints source f block.end well limits (end_operands_hold f block well there) (target_is_small f well limits block there) (and_parts _ _ (each_block_fits f well block there)).1 in
     seen (joined phis (λ rest. tt) (joined stmts (λ rest. tt) end)) (λ x. (x.0 ++ x.1.0, x.1.1)) (λ x w is h. items_then (SpellsEndIfAny x.1.1) x.0 x.1.0 w h)
-      (λ x is. (x.0, x.1.0, refl, is.0, is.1.0, is.1.1))
+    (λ x is. (x.0, x.1.0, refl, is.0, is.1.0, is.1.1))
 
 -- ---- blocks
 
@@ -73,4 +73,4 @@ block_prints source f block well limits there =
     let head = joined (keyword_prints source keywords.Block) (λ rest. refl) opened in
     let whole = told (block_whole (decimal block.number) (flat_map (phi_line f) block.phis) (flat_map (stmt_line f) block.stmts) (end_lines f block.end)) (blanks_before (10 ∷ codes "  ") refl head) in
     seen whole (λ x. record { head = x.0; number = x.1.0; items = x.1.1.0; end = x.1.1.1 }) (λ x w is h. h)
-      (λ x is. let lines = is.1.1 in record { number = is.1.0; phi_items = lines.0; stmt_items = lines.1; in_order = lines.2; phis = lines.3; stmts = lines.4; end = lines.5 })
+    (λ x is. let lines = is.1.1 in record { number = is.1.0; phi_items = lines.0; stmt_items = lines.1; in_order = lines.2; phis = lines.3; stmts = lines.4; end = lines.5 })

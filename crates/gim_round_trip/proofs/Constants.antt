@@ -41,7 +41,8 @@ use Rattle.gim_statements.specs.Grammar.{◌▸◌, AKeyword, BeginsAt, Signed, 
 use Rattle.gim_statements.specs.Words.{literal_number}
 use Rattle.gim_round_trip.proofs.Prints.{Prints, word_end, joined, seen, blanks_before}
 use Rattle.gim_round_trip.proofs.Writes.{WritesOperand}
-use Rattle.gim_round_trip.proofs.Numbers.{NumberText, number_digits, decimal_writes, digits_in_front, written_number_prints}
+use Rattle.gim_lexer.proofs.NumberTexts.{front_digits}
+use Rattle.gim_round_trip.proofs.Numbers.{NumberText, number_digits, decimal_writes, written_number_prints}
 use Rattle.gim_round_trip.proofs.Tokens.{keyword_there, mark_there, a_mark_prints}
 use Rattle.gim_round_trip.proofs.TypeTexts.{type_text_prints}
 
@@ -60,7 +61,6 @@ size_there source x = signed x.negative (number_after 0 (leading_digits (text_of
 record IsSuffix (suffix : List ℕ) (kind : NumberKind) : Type 0 where
   letters : list_all is_suffix_letter suffix ≡ true
   kind_is : suffix_kind suffix ≡ kind
-  no_digits : leading_digits suffix ≡ []
 
 number_text_of : (n : ℕ) (suffix : List ℕ) (kind : NumberKind) → n < 10 ^ 64 → IsSuffix suffix kind → NumberText (decimal n) suffix kind
 number_text_of n suffix kind small h = record { number = (decimal_writes n small).text; letters = h.letters; kind_is = h.kind_is }
@@ -68,7 +68,7 @@ number_text_of n suffix kind small h = record { number = (decimal_writes n small
 number_read : (n : ℕ) (suffix bs : List ℕ) (kind : NumberKind) → n < 10 ^ 64 → IsSuffix suffix kind → bs ≡ decimal n ++ suffix → number_after 0 (leading_digits bs) ≡ n
 number_read n suffix bs kind small h e =
     let w = decimal_writes n small in
-    ap (λ text. number_after 0 (leading_digits text)) e ∙ ap (number_after 0) (digits_in_front (decimal n) suffix (number_digits (decimal n) w.text) h.no_digits) ∙ w.number
+    ap (λ text. number_after 0 (leading_digits text)) e ∙ ap (number_after 0) (front_digits (decimal n) suffix (number_digits (decimal n) w.text) h.letters) ∙ w.number
 
 -- the tokens begin where the first one stands
 begins_there : (t : Token) (M : List Token → Type 0) (w : List Token) → ((λ u. u ≡ t ∷ []) ▸ M) w → BeginsAt (span_of t) w
@@ -87,15 +87,15 @@ signed_prints : (source : List ℕ) (z : ℤ) (suffix : List ℕ) (kind : Number
 signed_prints source (pos n) suffix kind M small h means =
     let size = length (decimal n ++ suffix) in
     written_number_prints source (decimal n) suffix kind (λ at. record { start = place at size; negative = false; number = place at size }) (number_text_of n suffix kind small h)
-        (λ at. (refl, means (place at size))) (λ at e. ap pos (number_read n suffix (text_of source (place at size)) kind small h e))
+    (λ at. (refl, means (place at size))) (λ at e. ap pos (number_read n suffix (text_of source (place at size)) kind small h e))
 signed_prints source (negsuc n) suffix kind M small h means =
     let size = length (decimal (suc n) ++ suffix) in
     let number : Prints source word_end M (λ (at : Span). number_after 0 (leading_digits (text_of source at)) ≡ suc n) (decimal (suc n) ++ suffix) =
-        written_number_prints source (decimal (suc n)) suffix kind (λ at. place at size) (number_text_of (suc n) suffix kind small h)
-            (λ at. means (place at size)) (λ at e. number_read (suc n) suffix (text_of source (place at size)) kind small h e) in
+    written_number_prints source (decimal (suc n)) suffix kind (λ at. place at size) (number_text_of (suc n) suffix kind small h)
+    (λ at. means (place at size)) (λ at e. number_read (suc n) suffix (text_of source (place at size)) kind small h e) in
     seen (joined (mark_there source marks.Minus refl) (λ rest. tt) number) (λ (x : Span × Span). record { start = x.0; negative = true; number = x.1 })
-        (λ x w is spelled. (begins_there (tokens.Mark marks.Minus x.0) (M x.1) w spelled, after_minus x.0 (M x.1) w spelled))
-        (λ x is. ap (λ m. neg_ℤ (pos m)) is.1)
+    (λ x w is spelled. (begins_there (tokens.Mark marks.Minus x.0) (M x.1) w spelled, after_minus x.0 (M x.1) w spelled))
+    (λ x is. ap (λ m. neg_ℤ (pos m)) is.1)
 
 -- ---- words
 
@@ -139,9 +139,9 @@ short_prints : (source : List ℕ) (f : Function) (w : Word) (suffix : List ℕ)
     → Prints source word_end SpellsOperand (λ (tree : OperandText). WritesOperand source f tree (operands.Const w)) (signed_decimal (value w) ++ suffix)
 short_prints source f w suffix kind ty h is_suffix means spells is =
     seen (signed_prints source (value w) suffix kind (λ number. Meant literal_number (ty, number)) h.small is_suffix (λ span. (tokens.Number kind span, means span, refl)))
-        (λ (x : SignedNumber). trees.Literal (record { start = x.start; ty = ty; negative = x.negative; number = x.number }))
-        (λ x v size spelled. (spelled.0, spells x.negative x.number v spelled.1))
-        (λ x size. literal_is source w (record { start = x.start; ty = ty; negative = x.negative; number = x.number }) h is size)
+    (λ (x : SignedNumber). trees.Literal (record { start = x.start; ty = ty; negative = x.negative; number = x.number }))
+    (λ x v size spelled. (spelled.0, spells x.negative x.number v spelled.1))
+    (λ x size. literal_is source w (record { start = x.start; ty = ty; negative = x.negative; number = x.number }) h is size)
 
 -- ---- constants with their type written out
 
@@ -149,14 +149,14 @@ literal_text_is : (w : Word) → literal_text w ≡ codes "_Literal (" ++ (type_
 literal_text_is w = append_assoc (codes "_Literal (" ++ type_text w.ty) (codes ") ") (signed_decimal (value w)) ∙ append_assoc (codes "_Literal (") (type_text w.ty) (codes ") " ++ signed_decimal (value w))
 
 plain_suffix : IsSuffix [] kinds.Plain
-plain_suffix = record { letters = refl; kind_is = refl; no_digits = refl }
+plain_suffix = record { letters = refl; kind_is = refl }
 
 plain_prints : (source : List ℕ) (w : Word) → IsHeld w
     → Prints source word_end (λ (x : SignedNumber). Signed x.negative (Meant plain_number x.number)) (λ x. size_there source x ≡ value w) (signed_decimal (value w))
 plain_prints source w h =
     seen (subst (Prints source word_end (λ (x : SignedNumber) (v : List Token). BeginsAt x.start v × Signed x.negative (Meant plain_number x.number) v) (λ x. size_there source x ≡ value w)) (append-nil (signed_decimal (value w)))
-            (signed_prints source (value w) [] kinds.Plain (λ number. Meant plain_number number) h.small plain_suffix (λ span. (tokens.Number kinds.Plain span, refl, refl))))
-        (λ x. x) (λ x v size spelled. spelled.1) (λ x size. size)
+    (signed_prints source (value w) [] kinds.Plain (λ number. Meant plain_number number) h.small plain_suffix (λ span. (tokens.Number kinds.Plain span, refl, refl))))
+    (λ x. x) (λ x v size spelled. spelled.1) (λ x size. size)
 
 -- under a unary minus too
 pub literal_prints : (source : List ℕ) (f : Function) (w : Word) → is_word w ≡ true
@@ -167,10 +167,10 @@ literal_prints source f w holds =
     let typed = joined (type_text_prints source w.ty h.type) (λ rest. refl) closed in
     let opened = joined (blanks_before (codes " ") refl (a_mark_prints source marks.Open refl)) (λ rest. tt) typed in
     subst (Prints source word_end (λ (tree : OperandText) (v : List Token). MayStandUnder operations.Negate tree × SpellsOperand tree v) (λ tree. WritesOperand source f tree (operands.Const w))) (sym (literal_text_is w))
-        (seen (joined (keyword_there source keywords.Literal) (λ rest. refl) opened)
-            (λ x. trees.Literal (record { start = x.0; ty = types.Written w.ty; negative = x.1.1.1.1.negative; number = x.1.1.1.1.number }))
-            (λ x v is spelled. (tt, (begins_there (tokens.Keyword keywords.Literal x.0) _ v spelled, after_literal x.0 _ v spelled)))
-            (λ x is. literal_is source w (record { start = x.0; ty = types.Written w.ty; negative = x.1.1.1.1.negative; number = x.1.1.1.1.number }) h refl is.1.1.1.1))
+    (seen (joined (keyword_there source keywords.Literal) (λ rest. refl) opened)
+    (λ x. trees.Literal (record { start = x.0; ty = types.Written w.ty; negative = x.1.1.1.1.negative; number = x.1.1.1.1.number }))
+    (λ x v is spelled. (tt, (begins_there (tokens.Keyword keywords.Literal x.0) _ v spelled, after_literal x.0 _ v spelled)))
+    (λ x is. literal_is source w (record { start = x.0; ty = types.Written w.ty; negative = x.1.1.1.1.negative; number = x.1.1.1.1.number }) h refl is.1.1.1.1))
 
 -- ---- constants
 
@@ -179,21 +179,22 @@ pub constant_prints : (source : List ℕ) (f : Function) (w : Word) → is_word 
 unfolding constant_text suffix_of
 constant_prints source f w holds =
     by (same_type w.ty int_type) (same_type w.ty unsigned_int_type) (same_type w.ty long_type) (same_type w.ty unsigned_long_type)
-        (same_type_is w.ty int_type) (same_type_is w.ty unsigned_int_type) (same_type_is w.ty long_type) (same_type_is w.ty unsigned_long_type) where
+    (same_type_is w.ty int_type) (same_type_is w.ty unsigned_int_type) (same_type_is w.ty long_type) (same_type_is w.ty unsigned_long_type) where
       held : IsHeld w
       held = word_is_held w holds
+
       by : (a b c d : Bool) → (a ≡ true → w.ty ≡ int_type) → (b ≡ true → w.ty ≡ unsigned_int_type) → (c ≡ true → w.ty ≡ long_type) → (d ≡ true → w.ty ≡ unsigned_long_type)
           → Prints source word_end SpellsOperand (λ (tree : OperandText). WritesOperand source f tree (operands.Const w))
-              (option_map_or (λ suffix. signed_decimal (value w) ++ suffix) (cond a (Some []) (cond b (Some (codes "u")) (cond c (Some (codes "l")) (cond d (Some (codes "ul")) None)))) (literal_text w))
+          (option_map_or (λ suffix. signed_decimal (value w) ++ suffix) (cond a (Some []) (cond b (Some (codes "u")) (cond c (Some (codes "l")) (cond d (Some (codes "ul")) None)))) (literal_text w))
       by true b c d p q r s =
           let fits : in_range int_type (value w) ≡ true = subst (λ t. in_range t (value w) ≡ true) (p refl) held.range in
           short_prints source f w [] kinds.Plain types.Plain held plain_suffix (λ span. refl) (λ negative number v h. h) (ap (λ t. cond t int_type long_type) fits ∙ sym (p refl))
       by false true c d p q r s =
           let fits : in_range unsigned_int_type (value w) ≡ true = subst (λ t. in_range t (value w) ≡ true) (q refl) held.range in
-          short_prints source f w (codes "u") kinds.Unsigned types.Unsigned held (record { letters = refl; kind_is = refl; no_digits = refl }) (λ span. refl) (λ negative number v h. h)
-              (ap (λ t. cond t unsigned_int_type unsigned_long_type) fits ∙ sym (q refl))
+          short_prints source f w (codes "u") kinds.Unsigned types.Unsigned held (record { letters = refl; kind_is = refl }) (λ span. refl) (λ negative number v h. h)
+          (ap (λ t. cond t unsigned_int_type unsigned_long_type) fits ∙ sym (q refl))
       by false false true d p q r s =
-          short_prints source f w (codes "l") kinds.Long types.Long held (record { letters = refl; kind_is = refl; no_digits = refl }) (λ span. refl) (λ negative number v h. h) (sym (r refl))
+          short_prints source f w (codes "l") kinds.Long types.Long held (record { letters = refl; kind_is = refl }) (λ span. refl) (λ negative number v h. h) (sym (r refl))
       by false false false true p q r s =
-          short_prints source f w (codes "ul") kinds.UnsignedLong types.UnsignedLong held (record { letters = refl; kind_is = refl; no_digits = refl }) (λ span. refl) (λ negative number v h. h) (sym (s refl))
+          short_prints source f w (codes "ul") kinds.UnsignedLong types.UnsignedLong held (record { letters = refl; kind_is = refl }) (λ span. refl) (λ negative number v h. h) (sym (s refl))
       by false false false false p q r s = seen (literal_prints source f w holds) (λ tree. tree) (λ tree v is spelled. spelled.1) (λ tree is. is)

@@ -53,7 +53,7 @@ if_whole a sign b first other = simp append_assoc
 
 if_prints : (source : List ℕ) (f : Function) (op : Code) (a b : Operand) (to other : ℕ) → is_comparison_code op ≡ true → IsRead source f a → IsRead source f b → to < 1000000000 → other < 1000000000
     → Prints source any_end SpellsEndIfAny (λ (tree : Option EndText). WritesEnd source f tree (ends.If op a b to other))
-      (condition_line f op a b ++ line (codes "    " ++ jump_text to) ++ line (codes "  else") ++ line (codes "    " ++ jump_text other))
+    (condition_line f op a b ++ line (codes "    " ++ jump_text to) ++ line (codes "  else") ++ line (codes "    " ++ jump_text other))
 if_prints source f op a b to other compares one two small other_small =
     let last = blanks_after (10 ∷ []) refl (λ rest. refl) (blanks_before (10 ∷ codes "    ") refl (jump_prints source other other_small)) in
     let else_jump = blanks_before (10 ∷ codes "  ") refl (lead (a_keyword_prints source keywords.Else) (λ rest. refl) last) in

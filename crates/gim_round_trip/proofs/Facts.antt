@@ -1,6 +1,6 @@
 -- What the rules on a function say of its names, numbers and parts, and how their texts are read.
 use Rattle.std.proofs.Common.{◌≡◌, ℕ, ◌<◌, ◌^◌, Bool, true, false, cond, Option, Some, None, List, [], ◌∷◌, ◌++◌, map, codes, lit≤, refl, sym, ap, ◌∙◌, arith, inl, inr}
-use Rattle.std.specs.Prelude.{◌==◌, ◌&&◌, ◌||◌, not, nat_lt, IsTrue}
+use Rattle.std.specs.Prelude.{◌==◌, ◌&&◌, ◌||◌, not, nat_lt}
 use Rattle.std.specs.List.{list_all, list_any, flat_map}
 use Rattle.std.specs.Option.{option_map_or, unwrap_or}
 use Rattle.std.specs.Fmt.{decimal}
@@ -20,13 +20,13 @@ use Rattle.gim_ast.specs.Functions.{operands_of, assigned, targets_of, row_of}
 use Rattle.gim_ast.specs.Identifiers.{is_number_text, is_anonymous, anonymous}
 use Rattle.gim_ast.specs.Numbers.{number_below, capped}
 use Rattle.gim_ast.specs.Printing.{name_text, assigned_text, is_initial, type_of_name, base_of}
-use Rattle.gim_ast.specs.WellFormed.{IsWellFormed, same_text, all_distinct, rises, base_holds, row_stands, initial_bases, names_hold, operand_holds, block_fits, phi_fits, stmt_fits, end_fits, rhs_fits, numbers_of, is_among, is_assigned, blocks_hold, entry_has_no_phi, is_empty, predecessors, phi_blocks, phi_holds, type_of}
+use Rattle.gim_ast.specs.WellFormed.{IsWellFormed, same_text, all_distinct, rises, base_holds, row_stands, initial_bases, names_hold, operand_holds, block_fits, phi_fits, stmt_fits, rhs_fits, numbers_of, is_among, is_assigned, blocks_hold, entry_has_no_phi, is_empty, predecessors, phi_blocks, phi_holds, type_of}
 use Rattle.gim_ast.proofs.NumberLemmas.{number_below-decimal}
 use Rattle.gim_ast.specs.Removal.{is_used}
 use Rattle.gim_text.specs.Texts.{name_parts}
 use Rattle.gim_text.proofs.NameLemmas.{parts_found}
 use Rattle.gim_making.specs.Declarations.{number_of, number_limit}
-use Rattle.gim_making.specs.Names.{first_of, version_of}
+use Rattle.gim_making.specs.Names.{version_of}
 use Rattle.gim_making.proofs.Membership.{Has, all_has, any_has, any_from_has, has_map, has_flat, from_flat}
 use Rattle.gim_making.proofs.NameRowLemmas.{first_of_here, first_of_in, one_of_version}
 use Rattle.gim_making.proofs.PartLemmas.{same_text_is, text_itself}

@@ -79,7 +79,7 @@ WritesBody source f body = AllZip (WritesDecl source) body.0 f.decls × AllZip (
 
 body_prints : (source : List ℕ) (f : Function) → IsWellFormed f → IsWithinLimits f
     → Prints source any_end (λ (body : List DeclText × (List BlockText × Span)). SpellsBody body.0 body.1.0 body.1.1) (WritesBody source f)
-      (10 ∷ codes "{" ++ (10 ∷ [] ++ (flat_map decl_line f.decls ++ (flat_map (block_text f) f.blocks ++ line (codes "}")))))
+    (10 ∷ codes "{" ++ (10 ∷ [] ++ (flat_map decl_line f.decls ++ (flat_map (block_text f) f.blocks ++ line (codes "}")))))
 body_prints source f well limits =
     let decls = many source any_end SpellsDecl (WritesDecl source) decl_line f.decls (λ decl there. decl_prints source f decl well there) (λ decl rest ends. tt) in
     let blocks = many source any_end SpellsBlock (WritesBlock source f) (block_text f) f.blocks (λ block there. block_prints source f block well limits there) (λ block rest ends. tt) in
@@ -101,4 +101,4 @@ function_prints source f well limits =
     let whole = joined (head_prints source f well) (λ rest. refl) (joined (between_print source f well) (λ rest. tt) (body_prints source f well limits)) in
     let written = told (function_whole (type_text f.result) f.name (listed declared_text f.params) (flat_map decl_line f.decls) (flat_map (block_text f) f.blocks)) whole in
     seen written (λ x. record { result = f.result; name = x.0; params = x.1.0; decls = x.1.1.0; blocks = x.1.1.1.0; close = x.1.1.1.1 })
-      (λ x w is h. h) (λ x is. record { name = is.0; result = refl; params = is.1.0; decls = is.1.1.0; blocks = is.1.1.1 })
+    (λ x w is h. h) (λ x is. record { name = is.0; result = refl; params = is.1.0; decls = is.1.1.0; blocks = is.1.1.1 })

@@ -4,7 +4,6 @@ pub mod Decimals
 pub mod Different
 pub mod Ends
 pub mod Facts
-pub mod Filtered
 pub mod Functions
 pub mod KnownNames
 pub mod Left

@@ -1,7 +1,7 @@
 -- No limit is passed by trees that write well-formed functions within the limits.
-use Rattle.std.proofs.Common.{◌≡◌, ℕ, suc, ◌+◌, ◌<◌, ◌≤◌, Bool, true, false, Some, None, List, [], ◌∷◌, map, length, lit≤, refl, sym, ap, subst, ◌∙◌, arith, inl, inr}
+use Rattle.std.proofs.Common.{◌≡◌, ℕ, suc, ◌+◌, ◌<◌, ◌≤◌, Bool, true, false, Option, Some, None, List, [], ◌∷◌, map, length, lit≤, refl, sym, ap, subst, ◌∙◌, arith, inl, inr}
 use Rattle.std.specs.Prelude.{◌==◌, ◌&&◌, ◌||◌, not, is_none}
-use Rattle.std.specs.List.{AllByRecursion, AllZip, list_all}
+use Rattle.std.specs.List.{AllByRecursion, AllZip, list_all, filter_map, cons_option}
 use Rattle.std.specs.Option.{option_map_or}
 use Rattle.std.specs.Fmt.{decimal}
 use Rattle.std.proofs.lemmas.Bool.{and_from, and_right, ne_eqb}
@@ -26,11 +26,19 @@ use Rattle.gim_making.proofs.PartLemmas.{text_itself}
 use Rattle.gim_making.proofs.SmallLemmas.{each_has}
 use Rattle.gim_round_trip.specs.ReadBack.{IsWithinLimits}
 use Rattle.gim_round_trip.proofs.Different.{few_different}
-use Rattle.gim_round_trip.proofs.Filtered.{from_filter}
 use Rattle.gim_round_trip.proofs.NoFault.{none_of_each}
 use Rattle.gim_round_trip.proofs.PairedLists.{beside_first}
 use Rattle.gim_round_trip.proofs.PlacesFit.{Fits, places_fit}
 use Rattle.gim_round_trip.proofs.Writes.{WritesBlock, Writes}
+
+-- what stands in a list of what a function gives of the elements of another
+from_filter : {X Y : Type 0} (h : X → Option Y) (xs : List X) (y : Y) → Has (filter_map h xs) y → (x : X) × Has xs x × (h x ≡ Some y)
+from_filter h [] y there = absurd there
+from_filter {X = X} {Y = Y} h (x ∷ xs) y there = by (h x) refl there (from_filter h xs y) where
+  by : (o : Option Y) → h x ≡ o → Has (cons_option o (filter_map h xs)) y → (Has (filter_map h xs) y → (z : X) × Has xs z × (h z ≡ Some y)) → (z : X) × Has (x ∷ xs) z × (h z ≡ Some y)
+  by None is there later = let r = later there in (r.0, inr r.1, r.2)
+  by (Some w) is (inl e) later = (x, inl refl, is ∙ ap Some e)
+  by (Some w) is (inr there) later = let r = later there in (r.0, inr r.1, r.2)
 
 abbrev EachFits : List ℕ → Function → List Place → Type 0
 EachFits source f list = (place : Place) → Has list place → Fits source f place

@@ -80,8 +80,9 @@ row_type f row well holds =
     let in_params = λ (decl : Decl) (there : Has f.params decl). decl_type f decl well (has_left f.params f.decls decl there) in
     let in_decls = λ (decl : Decl) (there : Has f.decls decl). decl_type f decl well (has_right f.params f.decls decl there) in
     elim (declared_somewhere (same_text row.base []) (not row.initial) (declares_as (anonymous row.version) row.ty f.decls) (declares_as row.base row.ty f.params) (declares_as row.base row.ty f.decls) holds) [
-      inl local ↦ declared_type (anonymous row.version) row.ty f.decls in_decls local
-    | inr others ↦ elim others [ inl param ↦ declared_type row.base row.ty f.params in_params param | inr other ↦ declared_type row.base row.ty f.decls in_decls other ] ]
+      | inl local ↦ declared_type (anonymous row.version) row.ty f.decls in_decls local
+      | inr others ↦ elim others [ inl param ↦ declared_type row.base row.ty f.params in_params param | inr other ↦ declared_type row.base row.ty f.decls in_decls other ]
+    ]
 
 -- ---- phis
 
@@ -113,7 +114,7 @@ phi_prints source f block phi well limits there here =
     let row = phi_row f phi (all_has (phi_fits f) block.phis (and_parts _ _ (and_parts _ _ fits).0).0 phi here) in
     let holds = all_has (phi_holds f block.number) block.phis (all_has (λ (b : Block). list_all (phi_holds f b.number) b.phis) f.blocks (and_parts _ _ well.blocks).1 block there) phi here in
     let each = λ (arg : ℕ × Operand) (stands : Has phi.args arg).
-          arg_prints source f arg well limits (phi_block_is_small f well limits block there phi here arg stands) (phi_operand_holds f block phi arg well there here stands) in
+    arg_prints source f arg well limits (phi_block_is_small f well limits block there phi here arg stands) (phi_operand_holds f block phi arg well there here stands) in
     let args = args_print source f phi.args (and_parts _ _ holds).1 each in
     let ended = trail args (λ rest. refl) (lead (a_mark_prints source marks.Close refl) (λ rest. tt) (quiet_semicolon source)) in
     let opened = lead (a_keyword_prints source keywords.Phi) (λ rest. refl) (blanks_before (codes " ") refl (lead (a_mark_prints source marks.Open refl) (λ rest. tt) ended)) in

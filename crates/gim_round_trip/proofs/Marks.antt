@@ -150,6 +150,7 @@ spaced_mark_prints source bs m value h spells holds =
       apart : (l : Bool) (rest : List ℕ) → Ends blank_end rest → separator_length l (bs ++ rest) ≡ None
       apart l [] ends = absurd ends
       apart l (b ∷ rest) ends = h.apart l b rest ends
+
       stands : (at : ℕ) (rest : List ℕ) → Ends blank_end rest → token_of_text at (bs ++ rest) ≡ Some (tokens.Mark m (place at (length bs)))
       stands at [] ends = absurd ends
       stands at (b ∷ rest) ends = h.stands at b rest ends

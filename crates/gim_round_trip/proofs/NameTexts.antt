@@ -19,8 +19,8 @@ use Rattle.gim_making.proofs.Membership.{Has, has_map, has_left, has_right, all_
 use Rattle.gim_making.proofs.PartLemmas.{same_text_is}
 use Rattle.gim_round_trip.specs.ReadBack.{IsWithinLimits}
 use Rattle.gim_round_trip.proofs.Facts.{name_facts, number_text}
+use Rattle.gim_lexer.proofs.LongestMatch.{number_is_word}
 use Rattle.gim_round_trip.proofs.Numbers.{number_digits}
-use Rattle.gim_round_trip.proofs.Tokens.{digits_are_words}
 
 -- ---- reserved words are no names
 
@@ -51,10 +51,10 @@ block_word_has_no_parts (a ∷ b ∷ c ∷ d ∷ bs) base ds parts h =
 named_is_free : (text base ds : List ℕ) → name_parts text ≡ Some (base, ds) → is_reserved text ≡ false
 named_is_free text base ds parts =
     let other : list_any (λ word. same_text word text) reserved_words ≡ false =
-        none_from_has (λ word. same_text word text) reserved_words
-            (λ word there same. some_parts word base ds (ap name_parts (same_text_is word text same) ∙ parts) (all_has has_no_parts reserved_words none_is_named word there)) in
+    none_from_has (λ word. same_text word text) reserved_words
+    (λ word there same. some_parts word base ds (ap name_parts (same_text_is word text same) ∙ parts) (all_has has_no_parts reserved_words none_is_named word there)) in
     or_from (list_any (λ word. same_text word text) reserved_words) (is_block_word text) other
-        (false_from_ne_true (is_block_word text) (block_word_has_no_parts text base ds parts))
+    (false_from_ne_true (is_block_word text) (block_word_has_no_parts text base ds parts))
 
 -- ---- the bytes of a name
 
@@ -105,6 +105,6 @@ pub name_is_identifier : (f : Function) (x : ℕ) (row : NameRow) → IsWellForm
 name_is_identifier f x row well limits found =
     let facts = name_facts f x row well limits found in
     let small : x < 2 ^ 64 = omega (arith, facts.small) in
-    let digits = digits_are_words (decimal x) (number_digits (decimal x) (number_text x small)) in
+    let digits = number_is_word (decimal x) (number_text x small) in
     let word : is_word_text (assigned_text f x) ≡ true = ap is_word_text facts.text ∙ name_is_word row.base (decimal x) digits (base_is_word f well row facts.base) in
     and_from (is_word_text (assigned_text f x)) (not (is_reserved (assigned_text f x))) word (not_from_false (is_reserved (assigned_text f x)) (named_is_free (assigned_text f x) row.base (decimal x) facts.parts))

@@ -11,15 +11,17 @@ use Rattle.std.proofs.lemmas.List.Folds.{list_all-append}
 use Rattle.std.proofs.lemmas.Nat.{div-add-mod'}
 use Rattle.std.proofs.Math.Nat.{mod-lt}
 use Rattle.std.proofs.Math.Seq.{take-append_seam, drop-append_seam}
-use Rattle.gim_ast.specs.Identifiers.{is_digit, is_letter, is_number_text, is_word_byte}
+use Rattle.gim_ast.specs.Identifiers.{is_digit, is_number_text, is_word_byte}
 use Rattle.gim_ast.specs.Numbers.{number_after}
 use Rattle.gim_text.specs.declared.token.NumberKind.{NumberKind}
 use Rattle.gim_text.specs.declared.token.Token.{Token}
 use Rattle.gim_text.specs.declared.token.Token.TheVariants as tokens
-use Rattle.gim_text.specs.Texts.{text_of, leading_digits}
+use Rattle.gim_text.specs.Texts.{text_of}
 use Rattle.gim_lexer.specs.Numbers.{is_suffix_letter, suffix_kind, number_kind}
 use Rattle.gim_lexer.specs.Separators.{is_space, separator_length}
 use Rattle.gim_lexer.specs.Tokens.{place, number_at, token_of_text}
+use Rattle.gim_lexer.proofs.LongestMatch.{number_begins}
+use Rattle.gim_lexer.proofs.NumberTexts.{letter_is_no_digit}
 use Rattle.gim_round_trip.proofs.Prints.{Prints, Ends, word_end, token_prints}
 use Rattle.gim_round_trip.proofs.Words.{run_over, begins_none}
 
@@ -41,7 +43,7 @@ still_number_text (b ∷ []) d h some digit =
 still_number_text (b ∷ c ∷ bs) d h some digit =
     let p = and_parts (is_digit b && not (b == 48)) (list_all is_digit (c ∷ bs)) h in
     and_from (is_digit b && not (b == 48)) (list_all is_digit (c ∷ (bs ++ d ∷ []))) p.0
-        (list_all-append is_digit (c ∷ bs) (d ∷ []) ∙ and_from (list_all is_digit (c ∷ bs)) (is_digit d && true) p.1 (and_from (is_digit d) true digit refl))
+    (list_all-append is_digit (c ∷ bs) (d ∷ []) ∙ and_from (list_all is_digit (c ∷ bs)) (is_digit d && true) p.1 (and_from (is_digit d) true digit refl))
 
 -- the number of one digit more
 number_with_digit : (m : ℕ) (bs : List ℕ) (d : ℕ) → number_after m (bs ++ d ∷ []) ≡ 10 * number_after m bs + (d - 48)
@@ -75,9 +77,7 @@ decimal_writes n small = decimal_by_steps_wide WritesNumber one_digit digit_more
 -- ---- where the digits and the suffix end
 
 digits_end : (suffix rest : List ℕ) → list_all is_suffix_letter suffix ≡ true → Ends word_end rest → prefix_len is_digit (suffix ++ rest) ≡ 0
-digits_end (b ∷ suffix) rest all ends = rw (letter_is_no_digit b (and_parts (is_suffix_letter b) (list_all is_suffix_letter suffix) all).0) refl where
-  letter_is_no_digit : (b : ℕ) → is_suffix_letter b ≡ true → is_digit b ≡ false
-  letter_is_no_digit b h = grind (arith, nat_tests)
+digits_end (b ∷ suffix) rest all ends = rw (letter_is_no_digit b (and_parts (is_suffix_letter b) (list_all is_suffix_letter suffix) all).0) refl
 digits_end [] [] all ends = refl
 digits_end [] (b ∷ rest) all ends = rw (other_is_no_digit b ends) refl where
   other_is_no_digit : (b : ℕ) → is_word_byte b ≡ false → is_digit b ≡ false
@@ -91,9 +91,6 @@ suffix_ends (b ∷ rest) ends = rw (other_is_no_letter b ends) refl where
 
 -- ---- numbers
 
-digit_is_no_letter : (b : ℕ) → is_digit b ≡ true → is_letter b ≡ false
-digit_is_no_letter b h = grind (arith, nat_tests)
-
 digit_is_no_space : (b : ℕ) → is_digit b ≡ true → is_space b ≡ false
 digit_is_no_space b h = grind (arith, nat_tests)
 
@@ -102,10 +99,6 @@ digit_is_no_slash b h = grind (arith, nat_tests)
 
 digit_is_no_semicolon : (b : ℕ) → is_digit b ≡ true → (59 == b) ≡ false
 digit_is_no_semicolon b h = grind (arith, nat_tests)
-
-number_begins : (at b : ℕ) (text : List ℕ) → is_digit b ≡ true → token_of_text at (b ∷ text) ≡ Some (number_at at (b ∷ text))
-unfolding token_of_text
-number_begins at b text h = rw (digit_is_no_letter b h, h) refl
 
 -- the digits, and behind them the suffix
 number_there : (at n m : ℕ) (text digits suffix rest : List ℕ) → prefix_len is_digit text ≡ n → take n text ≡ digits → drop n text ≡ rest
@@ -137,9 +130,9 @@ number_cut : (digits suffix rest : List ℕ) (kind : NumberKind) → NumberText 
     → number_at at (digits ++ (suffix ++ rest)) ≡ tokens.Number kind (place at (length (digits ++ suffix)))
 number_cut digits suffix rest kind h at ends =
     number_there at (length digits) (length suffix) (digits ++ (suffix ++ rest)) digits suffix (suffix ++ rest)
-        (run_over is_digit digits (suffix ++ rest) (number_digits digits h.number) (digits_end suffix rest h.letters ends))
-        (take-append_seam digits (suffix ++ rest)) (drop-append_seam digits (suffix ++ rest))
-        (run_over is_suffix_letter suffix rest h.letters (suffix_ends rest ends)) (take-append_seam suffix rest)
+    (run_over is_digit digits (suffix ++ rest) (number_digits digits h.number) (digits_end suffix rest h.letters ends))
+    (take-append_seam digits (suffix ++ rest)) (drop-append_seam digits (suffix ++ rest))
+    (run_over is_suffix_letter suffix rest h.letters (suffix_ends rest ends)) (take-append_seam suffix rest)
     ∙ ap (λ k. tokens.Number k (place at (length digits + length suffix))) (kind_of digits suffix kind h)
     ∙ ap (λ n. tokens.Number kind (place at n)) (sym (length-append digits suffix))
 
@@ -160,12 +153,4 @@ pub written_number_prints : {A : Type 0} {N : A → List Token → Type 0} {Is :
     → Prints source word_end N Is (digits ++ suffix)
 written_number_prints source digits suffix kind value h spells holds =
     token_prints source word_end (digits ++ suffix) (λ at. tokens.Number kind (place at (length (digits ++ suffix)))) value
-        (λ l rest ends. number_apart digits suffix rest h.number l) (number_stands digits suffix kind h) (λ at. refl) spells holds
-
--- ---- the digits of a text
-
-pub digits_in_front : (digits suffix : List ℕ) → list_all is_digit digits ≡ true → leading_digits suffix ≡ [] → leading_digits (digits ++ suffix) ≡ digits
-digits_in_front [] suffix all none = none
-digits_in_front (d ∷ digits) suffix all none =
-    let p = and_parts (is_digit d) (list_all is_digit digits) all in
-    rw p.0 (ap (λ ds. d ∷ ds) (digits_in_front digits suffix p.1 none))
+    (λ l rest ends. number_apart digits suffix rest h.number l) (number_stands digits suffix kind h) (λ at. refl) spells holds

@@ -41,7 +41,7 @@ type_prints source t h = type_text_prints source t h
 pub declared_prints : (source : List ℕ) (decl : Decl) → is_type_of decl.ty ≡ true → is_identifier decl.ident ≡ true → Prints source word_end SpellsTyped (λ (tree : DeclText). WritesDecl source tree decl) (declared_text decl)
 declared_prints source decl types ident =
     seen (joined (blanks_after {last = any_end} (codes " ") refl (λ rest. refl) (type_prints source decl.ty types)) (λ rest. tt) (identifier_prints source decl.ident ident))
-        (λ x. record { ty = decl.ty; ident = x.1 }) (λ x w is spelled. spelled) (λ x is. (is.1, refl))
+    (λ x. record { ty = decl.ty; ident = x.1 }) (λ x w is spelled. spelled) (λ x is. (is.1, refl))
 
 -- a name where it is assigned
 pub assigned_prints : (source : List ℕ) (f : Function) (x : ℕ) (row : NameRow) → IsWellFormed f → IsWithinLimits f → row_of f x ≡ Some row
@@ -54,9 +54,10 @@ used_prints : (source : List ℕ) (f : Function) (x : ℕ) (t : Ty) → IsWellFo
 used_prints source f x t well limits holds = by (is_initial f x) refl where
   name : Prints source word_end (λ (at : Span). Meant identifier at) (λ at. text_of source at ≡ assigned_text f x) (assigned_text f x)
   name = let found = operand_row f x t holds in assigned_prints source f x found.0 well limits found.1
+
   by : (initial : Bool) → is_initial f x ≡ initial
       → Prints source word_end (λ (tree : OperandText) (w : List Token). MayStandUnder operations.Negate tree × SpellsOperand tree w) (λ tree. WritesOperand source f tree (operands.Name x t))
-          (assigned_text f x ++ cond initial (codes "(D)") [])
+      (assigned_text f x ++ cond initial (codes "(D)") [])
   by false is = subst (Prints source word_end (λ (tree : OperandText) (w : List Token). MayStandUnder operations.Negate tree × SpellsOperand tree w) (λ tree. WritesOperand source f tree (operands.Name x t)))
       (sym (append-nil (assigned_text f x))) (seen name (λ at. trees.Name at) (λ at w text spelled. (tt, spelled)) (λ at text. (text, is)))
   by true is =

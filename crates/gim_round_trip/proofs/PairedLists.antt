@@ -1,6 +1,6 @@
 -- Lists whose elements correspond place by place.
 use Rattle.std.proofs.Common.{◌≡◌, List, [], ◌∷◌, ◌++◌, map, refl, ap, subst, ◌∙◌, inl, inr}
-use Rattle.std.specs.List.{AllZip, AllByRecursion, flat_map}
+use Rattle.std.specs.List.{AllZip, flat_map}
 use Rattle.gim_making.proofs.Membership.{Has}
 
 -- what stands beside an element of the first list, and of the second
@@ -76,10 +76,3 @@ same_flat_images R g h [] [] each pairs = refl
 same_flat_images R g h [] (y ∷ ys) each pairs = absurd pairs
 same_flat_images R g h (x ∷ xs) [] each pairs = absurd pairs
 same_flat_images R g h (x ∷ xs) (y ∷ ys) each pairs = ap (λ a. a ++ flat_map g xs) (each x y pairs.0) ∙ ap (λ l. h y ++ l) (same_flat_images R g h xs ys each pairs.1)
-
--- ---- one list
-
--- what holds of each element from a list
-pub all_of : {X : Type 0} (P : X → Type 0) (xs : List X) → ((x : X) → Has xs x → P x) → AllByRecursion P xs
-all_of P [] h = tt
-all_of P (x ∷ xs) h = (h x (inl refl), all_of P xs (λ y there. h y (inr there)))

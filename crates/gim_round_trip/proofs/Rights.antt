@@ -83,9 +83,9 @@ with_start form (t ∷ w) h = (record { start = span_of t; form = form }, (refl,
 started : {Is : RightForm → Type 0} {source : List ℕ} {end : Close} {a : List ℕ} → Prints source end SpellsForm Is a → Prints source end SpellsRight (λ right. Is right.form) a
 started {Is = Is} one = record {
   read = λ at rest ends left.
-    let r = one.read at rest ends left in
-    let right = with_start r.value r.tokens r.spelled in
-    record { value = right.0; tokens = r.tokens; to = r.to; cut = r.cut; left = r.left; spelled = right.1; is = subst Is (sym right.2) r.is };
+      let r = one.read at rest ends left in
+      let right = with_start r.value r.tokens r.spelled in
+      record { value = right.0; tokens = r.tokens; to = r.to; cut = r.cut; left = r.left; spelled = right.1; is = subst Is (sym right.2) r.is };
 }
 
 -- ---- what the sign of an operation means
@@ -129,9 +129,9 @@ cast_prints : (source : List ℕ) (f : Function) (t : Ty) (a : Operand) → is_t
     → FormIsRead source f t (sides.Op operations.Convert (a ∷ [])) ((codes "(" ++ type_text t ++ codes ") ") ++ operand_text f a)
 cast_prints source f t a is one =
     let whole = lead (a_mark_prints source marks.Open refl) (λ rest. tt)
-          (lead (type_prints source t is) (λ rest. refl) (lead (a_mark_prints source marks.Close refl) (λ rest. tt) (blanks_before (codes " ") refl one))) in
+    (lead (type_prints source t is) (λ rest. refl) (lead (a_mark_prints source marks.Close refl) (λ rest. tt) (blanks_before (codes " ") refl one))) in
     told (ap (λ bs. codes "(" ++ bs) (sym (append_assoc (type_text t) (codes ") ") (operand_text f a))))
-      (seen whole (λ tree. Cast t tree) (λ tree w is h. h) (λ tree is. (refl, refl, is)))
+    (seen whole (λ tree. Cast t tree) (λ tree w is h. h) (λ tree is. (refl, refl, is)))
 
 negate_prints : (source : List ℕ) (f : Function) (t : Ty) (a : Operand)
     → Prints source word_end (λ (tree : OperandText) (w : List Token). MayStandUnder operations.Negate tree × SpellsOperand tree w) (λ tree. WritesOperand source f tree a) (negated_text f a)
@@ -169,7 +169,7 @@ infix_prints : (source : List ℕ) (f : Function) (t : Ty) (op : Code) (a b : Op
 infix_prints source f t op a b is one two =
     let whole = joined one (λ rest. refl) (lead (sign_prints source op is) (λ rest. tt) two) in
     told (infix_whole (operand_text f a) (sign_text op) (operand_text f b))
-      (seen whole (λ trees. Binary op trees.0 trees.1) (λ trees w is h. inl h) (λ trees is. (refl, is.0, is.1)))
+    (seen whole (λ trees. Binary op trees.0 trees.1) (λ trees w is h. inl h) (λ trees is. (refl, is.0, is.1)))
 
 call_whole : (word a b : List ℕ) → word ++ (codes " (" ++ (a ++ (codes ", " ++ (b ++ codes ")")))) ≡ word ++ codes " (" ++ a ++ codes ", " ++ b ++ codes ")"
 call_whole word a b = simp append_assoc
@@ -226,7 +226,7 @@ choice_prints source f t a b c one two three =
     let others = joined two (λ rest. refl) (lead colon (λ rest. tt) (blanks_before (codes " ") refl three)) in
     let whole = joined one (λ rest. refl) (lead question (λ rest. tt) (blanks_before (codes " ") refl others)) in
     told (choice_whole (operand_text f a) (operand_text f b) (operand_text f c))
-      (seen whole (λ trees. Choice trees.0 trees.1.0 trees.1.1) (λ trees w is h. h) (λ trees is. (refl, is.0, is.1.0, is.1.1)))
+    (seen whole (λ trees. Choice trees.0 trees.1.0 trees.1.1) (λ trees w is h. h) (λ trees is. (refl, is.0, is.1.0, is.1.1)))
 
 ternary_prints : (source : List ℕ) (f : Function) (t : Ty) (op : Code) (a b c : Operand) → IsRead source f a → IsRead source f b → IsRead source f c
     → well_typed_ternary op t (type_of a) (type_of b) (type_of c) ≡ true → FormIsRead source f t (sides.Op op (a ∷ b ∷ c ∷ [])) (ternary_text f a b c)

@@ -47,15 +47,19 @@ followed : {A B : Type 0} {N : A → List Token → Type 0} {M : B → List Toke
     → Prints source first N Is a → Follows first b last → Prints source last M Js b
     → Prints source last (λ (x : A × B). N x.0 ▸ M x.1) (λ x. Is x.0 × Js x.1) (a ++ b)
 followed {source = source} {a = a} {b = b} one follows two = record {
-    read = λ at rest ends left.
+  read = λ at rest ends left.
       let r = one.read at (b ++ rest) (follows rest ends) (subst (Left source at) (append_assoc a b rest) left) in
       let s = two.read r.to rest ends r.left in
       record {
-          value = (r.value, s.value); tokens = r.tokens ++ s.tokens; to = s.to;
-          cut = cuts_further source at r.to s.to r.tokens s.tokens r.cut s.cut;
-          left = s.left; spelled = (r.tokens, s.tokens, r.spelled, s.spelled, refl); is = (r.is, s.is);
+        value = (r.value, s.value);
+        tokens = r.tokens ++ s.tokens;
+        to = s.to;
+        cut = cuts_further source at r.to s.to r.tokens s.tokens r.cut s.cut;
+        left = s.left;
+        spelled = (r.tokens, s.tokens, r.spelled, s.spelled, refl);
+        is = (r.is, s.is);
       };
-    }
+}
 
 one_more : {A X : Type 0} {source : List ℕ} {end : Close} {N : A → List Token → Type 0} {Is : A → X → Type 0} {a b : List ℕ} (x : X) (xs : List X)
     → Prints source end N (λ y. Is y x) a → Follows end b end → Prints source end (Many N) (λ (ys : List A). AllZip Is ys xs) b
@@ -96,4 +100,4 @@ pub comma_list : {A X : Type 0} (source : List ℕ) (N : A → List Token → Ty
     → Prints source word_end (λ (ys : A × List A). N ys.0 ▸ Many (λ y. AMark marks.Comma ▸ N y) ys.1) (λ ys. Is ys.0 x × AllZip Is ys.1 xs) (listed part (x ∷ xs))
 comma_list source N Is part x xs each =
     followed (each x (inl refl)) (front word_end (λ y. codes ", " ++ part y) xs (λ y rest ends. refl))
-      (many source word_end (λ y. AMark marks.Comma ▸ N y) Is (λ y. codes ", " ++ part y) xs (λ y there. after_comma source (each y (inr there))) (λ y rest ends. refl))
+    (many source word_end (λ y. AMark marks.Comma ▸ N y) Is (λ y. codes ", " ++ part y) xs (λ y there. after_comma source (each y (inr there))) (λ y rest ends. refl))

@@ -1,5 +1,5 @@
 -- The signs of operations between two operands.
-use Rattle.std.proofs.Common.{◌≡◌, ℕ, Bool, true, false, Option, Some, List, ◌++◌, length, codes, refl}
+use Rattle.std.proofs.Common.{◌≡◌, ℕ, Bool, true, Option, Some, List, ◌++◌, length, codes, refl}
 use Rattle.std.proofs.lemmas.Bool.{false≢true}
 use Rattle.pm_ops.specs.declared.code.Code.{Code}
 use Rattle.pm_ops.specs.declared.code.Code.TheVariants as operations
@@ -104,7 +104,7 @@ sign_between : (source : List ℕ) (meaning : Token → Option Code) (code : Cod
 sign_between source meaning code h means =
     let sign = sign_text code in
     blanks_after (codes " ") refl (λ rest. refl) (blanks_before (codes " ") refl
-        (spaced_mark_prints source sign (sign_mark code) (λ at. tt) (sign_spaced code h) (λ at. (tokens.Mark (sign_mark code) (place at (length sign)), means (place at (length sign)), refl)) (λ at e. tt)))
+    (spaced_mark_prints source sign (sign_mark code) (λ at. tt) (sign_spaced code h) (λ at. (tokens.Mark (sign_mark code) (place at (length sign)), means (place at (length sign)), refl)) (λ at e. tt)))
 
 pub infix_sign_prints : (source : List ℕ) (code : Code) → is_infix code ≡ true → Prints source any_end (λ (u : Unit {0}). Meant infix_code code) (λ u. Unit {0}) (codes " " ++ sign_text code ++ codes " ")
 infix_sign_prints source code h = sign_between source infix_code code h (λ span. sign_means code span h)

@@ -1,12 +1,11 @@
 -- Texts of one token: words, numbers and marks.
 use Rattle.std.proofs.Common.{◌≡◌, ℕ, ◌^◌, ◌<◌, Bool, true, false, Some, List, [], ◌∷◌, ◌++◌, length, drop, codes, refl, ap, ◌∙◌, subst}
 use Rattle.std.specs.Fmt.{decimal}
-use Rattle.std.specs.List.{list_all}
-use Rattle.std.proofs.lemmas.Bool.{and_parts, and_from, or_right, false≢true}
+use Rattle.std.proofs.lemmas.Bool.{false≢true}
 use Rattle.std.proofs.lemmas.List.{append-nil}
 use Rattle.pm_ops.specs.declared.code.Code.{Code}
 use Rattle.pm_ops.specs.Codes.{is_comparison_code}
-use Rattle.gim_ast.specs.Identifiers.{is_digit, is_letter, is_word_byte, is_word_text, is_number_text, is_identifier}
+use Rattle.gim_ast.specs.Identifiers.{is_word_text, is_number_text, is_identifier}
 use Rattle.gim_ast.specs.Printing.{sign_text}
 use Rattle.gim_text.specs.declared.token.Span.{Span}
 use Rattle.gim_text.specs.declared.token.Token.{Token}
@@ -29,7 +28,8 @@ use Rattle.gim_round_trip.proofs.Prints.{Prints, any_end, word_end, blank_end, s
 use Rattle.gim_round_trip.proofs.Writes.{NamesBlock}
 use Rattle.gim_round_trip.proofs.Facts.{number_text}
 use Rattle.gim_round_trip.proofs.Words.{word_prints, identifier_is_word, identifier_means}
-use Rattle.gim_round_trip.proofs.Numbers.{number_digits, written_number_prints}
+use Rattle.gim_lexer.proofs.LongestMatch.{number_is_word}
+use Rattle.gim_round_trip.proofs.Numbers.{written_number_prints}
 use Rattle.gim_round_trip.proofs.Marks.{IsMarkText, one_byte, mark_text_prints, assign_mark, semicolon_mark, spaced_mark_prints}
 use Rattle.gim_round_trip.proofs.Signs.{infix_sign_prints, comparison_sign_prints}
 pub use Rattle.gim_round_trip.proofs.Signs.{is_infix, comparison_is_infix}
@@ -41,10 +41,6 @@ pub identifier_prints : (source bs : List ℕ) → is_identifier bs ≡ true →
 identifier_prints source bs h =
     let word = identifier_is_word bs h in
     word_prints source bs (λ at. place at (length bs)) word.text (λ at. (word_token bs (place at (length bs)), identifier_means bs (place at (length bs)) word.free, refl)) (λ at e. e)
-
--- the option `ssa`
-pub ssa_prints : (source : List ℕ) → Prints source word_end (λ (at : Span). Meant identifier at) (λ at. text_of source at ≡ codes "ssa") (codes "ssa")
-ssa_prints source = identifier_prints source (codes "ssa") refl
 
 ssa_token : (span : Span) → word_token (codes "ssa") span ≡ tokens.Ssa span
 unfolding word_token
@@ -166,12 +162,6 @@ comparison_prints source code h = comparison_sign_prints source code h
 
 -- ---- blocks and numbers
 
-pub digits_are_words : (ds : List ℕ) → list_all is_digit ds ≡ true → list_all is_word_byte ds ≡ true
-digits_are_words [] h = refl
-digits_are_words (d ∷ ds) h =
-    let p = and_parts (is_digit d) (list_all is_digit ds) h in
-    and_from (is_word_byte d) (list_all is_word_byte ds) (or_right (is_letter d) (is_digit d) p.0) (digits_are_words ds p.1)
-
 block_token : (ds : List ℕ) (span : Span) → is_number_text ds ≡ true → word_token (codes "__BB" ++ ds) span ≡ tokens.BlockWord span
 unfolding word_token
 block_token [] span h = absurd (false≢true h)
@@ -181,13 +171,13 @@ block_token (d ∷ ds) span h = rw h refl
 pub block_word_prints : (source : List ℕ) (n : ℕ) → n < 2 ^ 64 → Prints source word_end (λ (at : Span). Meant block_word at) (λ at. NamesBlock source at n) (codes "__BB" ++ decimal n)
 block_word_prints source n small =
     let bs = codes "__BB" ++ decimal n in
-    word_prints source bs (λ at. place at (length bs)) (digits_are_words (decimal n) (number_digits (decimal n) (number_text n small)))
-        (λ at. (word_token bs (place at (length bs)), ap block_word (block_token (decimal n) (place at (length bs)) (number_text n small)), refl)) (λ at e. ap (drop 4) e)
+    word_prints source bs (λ at. place at (length bs)) (number_is_word (decimal n) (number_text n small))
+    (λ at. (word_token bs (place at (length bs)), ap block_word (block_token (decimal n) (place at (length bs)) (number_text n small)), refl)) (λ at e. ap (drop 4) e)
 
 -- a number without a suffix
 pub number_prints : (source : List ℕ) (n : ℕ) → n < 2 ^ 64 → Prints source word_end (λ (at : Span). Meant plain_number at) (λ at. text_of source at ≡ decimal n) (decimal n)
 number_prints source n small =
     let bs = decimal n ++ [] in
     subst (Prints source word_end (λ (at : Span). Meant plain_number at) (λ at. text_of source at ≡ decimal n)) (append-nil (decimal n))
-        (written_number_prints source (decimal n) [] Plain (λ at. place at (length bs)) (record { number = number_text n small; letters = refl; kind_is = refl })
-            (λ at. (tokens.Number Plain (place at (length bs)), refl, refl)) (λ at e. e ∙ append-nil (decimal n)))
+    (written_number_prints source (decimal n) [] Plain (λ at. place at (length bs)) (record { number = number_text n small; letters = refl; kind_is = refl })
+    (λ at. (tokens.Number Plain (place at (length bs)), refl, refl)) (λ at e. e ∙ append-nil (decimal n)))

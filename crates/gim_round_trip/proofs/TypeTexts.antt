@@ -56,7 +56,7 @@ words_together a b tokens (u, v, first, second, cut) = ap (map type_word) cut �
 two_words_print : (source : List ℕ) (a b : TypeWord) → Prints source word_end (λ (u : Unit {0}). AreWords (a ∷ b ∷ [])) (λ u. Unit {0}) (word_text a ++ codes " " ++ word_text b)
 two_words_print source a b =
     seen (joined (blanks_after {last = any_end} (codes " ") refl (λ rest. refl) (one_word_prints source a)) (λ rest. tt) (one_word_prints source b))
-        (λ x. tt) (λ x w is spelled. words_together a b w spelled) (λ x is. tt)
+    (λ x. tt) (λ x w is spelled. words_together a b w spelled) (λ x is. tt)
 
 -- ---- types
 
@@ -71,9 +71,10 @@ each_type : (P : Ty → Type 0) → P (record { width = 1; unsigned = true }) �
     → (t : Ty) → is_type_of t ≡ true → P t
 each_type P bool char short int long wide t h =
     by (t.width == 8) (t.width == 16) (t.width == 32) (t.width == 64) (t.width == 128) (t.width == 1) t.unsigned
-        (eqb-true t.width 8) (eqb-true t.width 16) (eqb-true t.width 32) (eqb-true t.width 64) (eqb-true t.width 128) (eqb-true t.width 1) h where
+    (eqb-true t.width 8) (eqb-true t.width 16) (eqb-true t.width 32) (eqb-true t.width 64) (eqb-true t.width 128) (eqb-true t.width 1) h where
       at : (n : ℕ) (u : Bool) → t.width ≡ n → P (record { width = n; unsigned = u }) → P (record { width = t.width; unsigned = u })
       at n u e p = subst (λ m. P (record { width = m; unsigned = u })) (sym e) p
+
       by : (a b c d e f u : Bool) → (a ≡ true → t.width ≡ 8) → (b ≡ true → t.width ≡ 16) → (c ≡ true → t.width ≡ 32) → (d ≡ true → t.width ≡ 64) → (e ≡ true → t.width ≡ 128) → (f ≡ true → t.width ≡ 1)
           → ((a || b || c || d || e) || (f && u)) ≡ true → P (record { width = t.width; unsigned = u })
       by true b c d e f u p q r s v w h = at 8 u (p refl) (char u)

@@ -19,7 +19,8 @@ use Rattle.gim_lexer.specs.Separators.{is_space, separator_length}
 use Rattle.gim_lexer.specs.Tables.{beside}
 use Rattle.gim_lexer.specs.Tokens.{place, word_at, token_of_text}
 use Rattle.gim_lexer.specs.Words.{type_words, keyword_table, type_word_of, keyword_of, plain_word, word_token}
-use Rattle.gim_lexer.proofs.Fronts.{word_place}
+use Rattle.gim_lexer.proofs.Fronts.{word_place, letter_is_word}
+use Rattle.gim_lexer.proofs.LongestMatch.{word_begins}
 use Rattle.gim_round_trip.proofs.Prints.{Prints, Ends, word_end, token_prints}
 
 -- ---- runs
@@ -58,13 +59,6 @@ word_apart (b ∷ bs) text l rest =
     let letter = (and_parts (is_letter b) (list_all is_word_byte bs) text).0 in
     begins_none l b (bs ++ rest) (letter_is_no_space b letter) (letter_is_no_slash b letter) (letter_is_no_semicolon b letter)
 
-letter_is_word : (b : ℕ) → is_letter b ≡ true → is_word_byte b ≡ true
-letter_is_word b h = rw h refl
-
-word_begins : (at b : ℕ) (text : List ℕ) → is_letter b ≡ true → token_of_text at (b ∷ text) ≡ Some (word_at at (b ∷ text))
-unfolding token_of_text
-word_begins at b text h = rw h refl
-
 word_there : (at : ℕ) (bs rest : List ℕ) → prefix_len is_word_byte (bs ++ rest) ≡ length bs → word_at at (bs ++ rest) ≡ word_token bs (place at (length bs))
 unfolding word_at
 word_there at bs rest run =
@@ -84,7 +78,7 @@ pub word_prints : {A : Type 0} {N : A → List Token → Type 0} {Is : A → Typ
     → Prints source word_end N Is bs
 word_prints source bs value text spells holds =
     token_prints source word_end bs (λ at. word_token bs (place at (length bs))) value
-        (λ l rest ends. word_apart bs text l rest) (word_stands bs text) (λ at. word_place bs (place at (length bs))) spells holds
+    (λ l rest ends. word_apart bs text l rest) (word_stands bs text) (λ at. word_place bs (place at (length bs))) spells holds
 
 -- ---- identifiers
 
