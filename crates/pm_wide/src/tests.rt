@@ -130,7 +130,8 @@ const AT_THE_LEAST: [(Code, Gives, Gives); 12] = [
     (Code::Max, Least, Least),
 ];
 
-/// Looks that each row's operation of these two words gives what stands there, at the type with these ends.
+/// Looks that each row's operation of these two words gives what stands there, at the type with
+/// these ends.
 fn judge_pair(
     rt: &impl Abort,
     rows: &[(Code, Gives, Gives)],
@@ -256,7 +257,8 @@ fn judge_unary(rt: &impl Abort, rows: &[(Code, IntType, i128, IntType, Gives)]) 
     }
 }
 
-/// Looks that operations of two words, the first of the operation's own type, give what stands there.
+/// Looks that operations of two words, the first of the operation's own type, give what stands
+/// there.
 fn judge_binary(rt: &impl Abort, rows: &[(Code, IntType, i128, i128, IntType, Gives)]) {
     for (code, ty, a, b, b_type, gives) in rows.iter() {
         let a = word(*a, *ty);
@@ -367,7 +369,8 @@ fn choices_worked_by_hand(rt: HostRuntime) {
     }
 }
 
-/// Two operands, and the word and the overflow of their sum, of their difference and of their product.
+/// Two operands, and the word and the overflow of their sum, of their difference and of their
+/// product.
 type Overflows = (i128, i128, (i128, bool), (i128, bool), (i128, bool));
 
 const OF_SIGNED_CHARS: [Overflows; 3] = [
