@@ -253,73 +253,35 @@ fn constants_and_unary_operations(rt: HostRuntime) -> Result<(), Fail> {
 }
 
 #[test]
-fn operations_of_two_and_three(rt: HostRuntime) -> Result<(), Fail> {
-    let line = "_2 = x_1(D) + y_5(D);";
-    judge_stmt(
-        &rt,
-        line,
-        "_2",
-        "x_1",
-        RightForm::Binary(Code::Plus, x(), y()),
-        false,
-    )?;
-    let line = "_3 = y_5(D) + x_1(D);";
-    judge_stmt(
-        &rt,
-        line,
-        "_3",
-        "y_5",
-        RightForm::Binary(Code::Plus, y(), x()),
-        false,
-    )?;
-    let line = "_2 = x_1(D) << y_5(D);";
-    judge_stmt(
-        &rt,
-        line,
-        "_2",
-        "x_1",
-        RightForm::Binary(Code::Lshift, x(), y()),
-        true,
-    )?;
-    let line = "_4 = x_1(D) < 7;";
-    judge_stmt(
-        &rt,
-        line,
-        "_4",
-        "x_1",
-        RightForm::Binary(Code::Lt, x(), seven()),
-        true,
-    )?;
-    let line = "_2 = x_1(D) < 7;";
-    judge_stmt(
-        &rt,
-        line,
-        "_2",
-        "x_1",
-        RightForm::Binary(Code::Lt, x(), seven()),
-        false,
-    )?;
-    let line = "_4 = x_1(D) < y_5(D);";
-    judge_stmt(
-        &rt,
-        line,
-        "_4",
-        "x_1",
-        RightForm::Binary(Code::Lt, x(), y()),
-        false,
-    )?;
+fn sums_and_shifts(rt: HostRuntime) -> Result<(), Fail> {
+    let sum = RightForm::Binary(Code::Plus, x(), y());
+    judge_stmt(&rt, "_2 = x_1(D) + y_5(D);", "_2", "x_1", sum, false)?;
+    let sum = RightForm::Binary(Code::Plus, y(), x());
+    judge_stmt(&rt, "_3 = y_5(D) + x_1(D);", "_3", "y_5", sum, false)?;
+    let shifted = RightForm::Binary(Code::Lshift, x(), y());
+    judge_stmt(&rt, "_2 = x_1(D) << y_5(D);", "_2", "x_1", shifted, true)?;
+    Ok(())
+}
+
+#[test]
+fn comparisons(rt: HostRuntime) -> Result<(), Fail> {
+    let below = RightForm::Binary(Code::Lt, x(), seven());
+    judge_stmt(&rt, "_4 = x_1(D) < 7;", "_4", "x_1", below, true)?;
+    let below = RightForm::Binary(Code::Lt, x(), seven());
+    judge_stmt(&rt, "_2 = x_1(D) < 7;", "_2", "x_1", below, false)?;
+    let below = RightForm::Binary(Code::Lt, x(), y());
+    judge_stmt(&rt, "_4 = x_1(D) < y_5(D);", "_4", "x_1", below, false)?;
+    Ok(())
+}
+
+#[test]
+fn choices(rt: HostRuntime) -> Result<(), Fail> {
     let line = "_2 = _4 ? x_1(D) : 7;";
     let choice = RightForm::Choice(name(line, "_4"), x(), seven());
     judge_stmt(&rt, line, "_2", "_4", choice, true)?;
     let line = "_2 = x_1(D) ? x_1(D) : x_1(D);";
-    judge_stmt(
-        &rt,
-        line,
-        "_2",
-        "x_1",
-        RightForm::Choice(x(), x(), x()),
-        false,
-    )?;
+    let choice = RightForm::Choice(x(), x(), x());
+    judge_stmt(&rt, line, "_2", "x_1", choice, false)?;
     Ok(())
 }
 

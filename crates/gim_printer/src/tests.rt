@@ -230,48 +230,31 @@ fn bitwise(alloc: Global) -> Result<Items<Stmt>, OutOfMemory> {
     Ok(Items::from_vec(stmts))
 }
 
+/// The comparison of two constants without a sign.
+fn compared(alloc: Global, bits: u8, left: u128, code: Code, right: u128) -> Stmt {
+    let left = constant(bits, true, left);
+    let right = constant(bits, true, right);
+    binary(alloc, 4, left, code, right)
+}
+
+/// The comparison of a negative constant with a positive one.
+fn compared_signed(alloc: Global, bits: u8, below: u128, code: Code, right: u128) -> Stmt {
+    let left = below_zero(bits, below);
+    let right = constant(bits, false, right);
+    binary(alloc, 4, left, code, right)
+}
+
 fn comparisons(alloc: Global) -> Result<Items<Stmt>, OutOfMemory> {
-    let greatest = constant(64, true, 18446744073709551615);
     let chosen = Operands::three(alloc, name(4), name(3), int(10));
     let stmts = Vec::from_array(
         alloc,
         [
-            binary(alloc, 4, greatest, Code::Eq, constant(64, true, 0)),
-            binary(
-                alloc,
-                4,
-                constant(1, true, 1),
-                Code::Ne,
-                constant(1, true, 0),
-            ),
-            binary(
-                alloc,
-                4,
-                below_zero(8, 128),
-                Code::Lt,
-                constant(8, false, 127),
-            ),
-            binary(
-                alloc,
-                4,
-                below_zero(16, 1),
-                Code::Le,
-                constant(16, false, 1),
-            ),
-            binary(
-                alloc,
-                4,
-                constant(8, true, 255),
-                Code::Gt,
-                constant(8, true, 0),
-            ),
-            binary(
-                alloc,
-                4,
-                constant(16, true, 65535),
-                Code::Ge,
-                constant(16, true, 0),
-            ),
+            compared(alloc, 64, 18446744073709551615, Code::Eq, 0),
+            compared(alloc, 1, 1, Code::Ne, 0),
+            compared_signed(alloc, 8, 128, Code::Lt, 127),
+            compared_signed(alloc, 16, 1, Code::Le, 1),
+            compared(alloc, 8, 255, Code::Gt, 0),
+            compared(alloc, 16, 65535, Code::Ge, 0),
             copied(7, below_zero(128, 170141183460469231731687303715884105728)),
             Stmt {
                 name: 3,

@@ -66,16 +66,29 @@ fn read_whole(alloc: Global, tokens: &[Token]) -> Result<BlockText, TokenStop<'_
     whole_in_memory(read_block(alloc, tokens), Part::InBlock)
 }
 
-/// The right side of the only statement of a block.
-fn right_of(alloc: Global, side: &str) -> Result<Option<RightText>, AllocError> {
+/// The form of the right side of the only statement of a block; None also where it doesn't start at its
+/// first token, which is the block's eighth.
+fn form_of(alloc: Global, side: &str) -> Result<Option<RightForm>, AllocError> {
     let text = format!(in alloc; "__BB ( 2 ) : x_1 = {side} ;")?;
     let tokens = tokens_of(alloc, &text)?;
     match read_whole(alloc, &tokens) {
-        Ok(block) => match block.items.as_slice() {
-            [ItemText::Stmt(_, right)] => Ok(Some(*right)),
-            _ => Ok(None),
-        },
+        Ok(block) => Ok(only_form(block.items.as_slice())),
         Err(_) => Ok(None),
+    }
+}
+
+fn only_form(items: &[ItemText]) -> Option<RightForm> {
+    match items {
+        [
+            ItemText::Stmt(
+                _,
+                RightText {
+                    start: Span { from: 7, .. },
+                    form,
+                },
+            ),
+        ] => Some(*form),
+        _ => None,
     }
 }
 
@@ -104,136 +117,138 @@ fn ends_too_early(alloc: Global, text: &str, from: usize) -> Result<bool, AllocE
 }
 
 #[test]
-fn operands(rt: HostRuntime) -> Result<(), Fail> {
+fn names(rt: HostRuntime) -> Result<(), Fail> {
     let alloc = rt.alloc();
     assert!(rt;
         matches!(
-            right_of(alloc, "ssa")?,
-            Some(RightText {
-                start: Span { from: 7, .. },
-                form: RightForm::Copy(OperandText::Name(Span { from: 7, .. })),
-            })
+            form_of(alloc, "ssa")?,
+            Some(RightForm::Copy(OperandText::Name(Span { from: 7, .. })))
         )
     );
     assert!(rt;
         matches!(
-            right_of(alloc, "x_1 ( D )")?,
-            Some(RightText {
-                start: Span { from: 7, .. },
-                form: RightForm::Copy(OperandText::Default(Span { from: 7, .. })),
-            })
+            form_of(alloc, "x_1 ( D )")?,
+            Some(RightForm::Copy(OperandText::Default(Span { from: 7, .. })))
         )
     );
-    assert!(rt;
-        matches!(
-            right_of(alloc, "- 5")?,
-            Some(RightText {
-                start: Span { from: 7, .. },
-                form: RightForm::Copy(OperandText::Literal(LiteralText {
-                    start: Span { from: 7, .. },
-                    ty: LiteralType::Plain,
-                    negative: true,
-                    number: Span { from: 8, .. },
-                })),
-            })
-        )
-    );
-    assert!(rt;
-        matches!(
-            right_of(alloc, "_Literal ( int ) - 5")?,
-            Some(RightText {
-                start: Span { from: 7, .. },
-                form: RightForm::Copy(OperandText::Literal(LiteralText {
-                    start: Span { from: 7, .. },
-                    ty: LiteralType::Written(_),
-                    negative: true,
-                    number: Span { from: 12, .. },
-                })),
-            })
-        )
-    );
-    assert!(rt; ends_too_early(alloc, "__BB ( 2 ) : x_1 = _Literal ( int ) - 5 ;", 6)?);
-    assert!(rt; ends_too_early(alloc, "__BB ( 2 ) : x_1 = x_2 ( D ) ;", 6)?);
     Ok(())
 }
 
 #[test]
-fn forms(rt: HostRuntime) -> Result<(), Fail> {
+fn constants(rt: HostRuntime) -> Result<(), Fail> {
+    let alloc = rt.alloc();
+    assert!(rt;
+        matches!(
+            form_of(alloc, "- 5")?,
+            Some(RightForm::Copy(OperandText::Literal(LiteralText {
+                start: Span { from: 7, .. },
+                ty: LiteralType::Plain,
+                negative: true,
+                number: Span { from: 8, .. },
+            })))
+        )
+    );
+    assert!(rt;
+        matches!(
+            form_of(alloc, "_Literal ( int ) - 5")?,
+            Some(RightForm::Copy(OperandText::Literal(LiteralText {
+                start: Span { from: 7, .. },
+                ty: LiteralType::Written(_),
+                negative: true,
+                number: Span { from: 12, .. },
+            })))
+        )
+    );
+    Ok(())
+}
+
+#[test]
+fn operations_of_one(rt: HostRuntime) -> Result<(), Fail> {
     let alloc = rt.alloc();
     // `-` negates a negative constant
     assert!(rt;
         matches!(
-            right_of(alloc, "- - 5")?,
-            Some(RightText {
-                start: Span { from: 7, .. },
-                form: RightForm::Unary(
-                    Code::Negate,
-                    OperandText::Literal(LiteralText {
-                        start: Span { from: 8, .. },
-                        ty: LiteralType::Plain,
-                        negative: true,
-                        number: Span { from: 9, .. },
-                    }),
-                ),
-            })
+            form_of(alloc, "- - 5")?,
+            Some(RightForm::Unary(
+                Code::Negate,
+                OperandText::Literal(LiteralText {
+                    start: Span { from: 8, .. },
+                    ty: LiteralType::Plain,
+                    negative: true,
+                    number: Span { from: 9, .. },
+                }),
+            ))
         )
     );
     assert!(rt;
         matches!(
-            right_of(alloc, "( int ) a")?,
-            Some(RightText {
-                start: Span { from: 7, .. },
-                form: RightForm::Cast(_, OperandText::Name(Span { from: 10, .. })),
-            })
+            form_of(alloc, "( int ) a")?,
+            Some(RightForm::Cast(_, OperandText::Name(Span { from: 10, .. })))
         )
     );
+    Ok(())
+}
+
+#[test]
+fn operations_of_two(rt: HostRuntime) -> Result<(), Fail> {
+    let alloc = rt.alloc();
     // after a negative constant an operator may follow
     assert!(rt;
         matches!(
-            right_of(alloc, "- 5 - a")?,
-            Some(RightText {
-                start: Span { from: 7, .. },
-                form: RightForm::Binary(
-                    Code::Minus,
-                    OperandText::Literal(LiteralText { negative: true, .. }),
-                    OperandText::Name(Span { from: 10, .. }),
-                ),
-            })
+            form_of(alloc, "- 5 - a")?,
+            Some(RightForm::Binary(
+                Code::Minus,
+                OperandText::Literal(LiteralText { negative: true, .. }),
+                OperandText::Name(Span { from: 10, .. }),
+            ))
         )
     );
     assert!(rt;
         matches!(
-            right_of(alloc, "__MIN ( a , b )")?,
-            Some(RightText {
-                start: Span { from: 7, .. },
-                form: RightForm::Binary(
-                    Code::Min,
-                    OperandText::Name(Span { from: 9, .. }),
-                    OperandText::Name(Span { from: 11, .. }),
-                ),
-            })
+            form_of(alloc, "__MIN ( a , b )")?,
+            Some(RightForm::Binary(
+                Code::Min,
+                OperandText::Name(Span { from: 9, .. }),
+                OperandText::Name(Span { from: 11, .. }),
+            ))
         )
     );
+    Ok(())
+}
+
+#[test]
+fn choices(rt: HostRuntime) -> Result<(), Fail> {
     assert!(rt;
         matches!(
-            right_of(alloc, "a ? 5u : b")?,
-            Some(RightText {
-                start: Span { from: 7, .. },
-                form: RightForm::Choice(
-                    OperandText::Name(Span { from: 7, .. }),
-                    OperandText::Literal(LiteralText {
-                        ty: LiteralType::Unsigned,
-                        ..
-                    }),
-                    OperandText::Name(Span { from: 11, .. }),
-                ),
-            })
+            form_of(rt.alloc(), "a ? 5u : b")?,
+            Some(RightForm::Choice(
+                OperandText::Name(Span { from: 7, .. }),
+                OperandText::Literal(LiteralText {
+                    ty: LiteralType::Unsigned,
+                    ..
+                }),
+                OperandText::Name(Span { from: 11, .. }),
+            ))
         )
     );
-    assert!(rt; ends_too_early(alloc, "__BB ( 2 ) : x_1 = ( int ) a ;", 6)?);
-    assert!(rt; ends_too_early(alloc, "__BB ( 2 ) : x_1 = __ABS a ;", 6)?);
-    assert!(rt; ends_too_early(alloc, "__BB ( 2 ) : x_1 = __MIN ( a , b ) ;", 6)?);
-    assert!(rt; ends_too_early(alloc, "__BB ( 2 ) : x_1 = a ? b : c ;", 6)?);
+    Ok(())
+}
+
+/// Blocks of one statement.
+const STATEMENTS: [&str; 6] = [
+    "__BB ( 2 ) : x_1 = _Literal ( int ) - 5 ;",
+    "__BB ( 2 ) : x_1 = x_2 ( D ) ;",
+    "__BB ( 2 ) : x_1 = ( int ) a ;",
+    "__BB ( 2 ) : x_1 = __ABS a ;",
+    "__BB ( 2 ) : x_1 = __MIN ( a , b ) ;",
+    "__BB ( 2 ) : x_1 = a ? b : c ;",
+];
+
+#[test]
+fn fronts_of_statements(rt: HostRuntime) -> Result<(), Fail> {
+    for text in &STATEMENTS {
+        assert!(rt; ends_too_early(rt.alloc(), text, 6)?, "{text}");
+    }
     Ok(())
 }
 
@@ -253,7 +268,7 @@ fn ends_in_a_constant(args: &[ArgText]) -> bool {
 }
 
 #[test]
-fn blocks(rt: HostRuntime) -> Result<(), Fail> {
+fn block_of_a_phi(rt: HostRuntime) -> Result<(), Fail> {
     let alloc = rt.alloc();
     let text = "__BB ( 2 , loop ( 5 ) ) : x_3 = __PHI ( __BB3 : a , __BB4 : 5 ) ; return x_3 ;";
     let tokens = tokens_of(alloc, text)?;
@@ -269,6 +284,12 @@ fn blocks(rt: HostRuntime) -> Result<(), Fail> {
     };
     assert!(rt; read);
     assert!(rt; ends_too_early(alloc, text, 24)?);
+    Ok(())
+}
+
+#[test]
+fn block_of_a_branch(rt: HostRuntime) -> Result<(), Fail> {
+    let alloc = rt.alloc();
     let text = "__BB ( 2 ) : if ( a < b ) goto __BB3 ( x ( 5 ) ) ; else goto __BB4 ;";
     let tokens = tokens_of(alloc, text)?;
     let read = match read_whole(alloc, &tokens) {

@@ -82,67 +82,97 @@ fn ends() -> [(IntType, i128, i128); 11] {
     ]
 }
 
+/// At the least and the greatest value: what unsigned types give, and signed ones.
+const AT_BOTH_ENDS: [(Code, Gives, Gives); 12] = [
+    (Code::Plus, Greatest, Word(-1)),
+    (Code::Minus, Word(1), Nothing),
+    (Code::Mult, Word(0), Nothing),
+    (Code::TruncDiv, Word(0), Word(-1)),
+    (Code::TruncMod, Word(0), Word(-1)),
+    (Code::BitAnd, Word(0), Word(0)),
+    (Code::BitIor, Greatest, Word(-1)),
+    (Code::BitXor, Greatest, Word(-1)),
+    (Code::Lshift, Nothing, Nothing),
+    (Code::Rshift, Nothing, Nothing),
+    (Code::Min, Least, Least),
+    (Code::Max, Greatest, Greatest),
+];
+
+/// The same at the greatest value twice.
+const AT_THE_GREATEST: [(Code, Gives, Gives); 12] = [
+    (Code::Plus, Word(-2), Nothing),
+    (Code::Minus, Word(0), Word(0)),
+    (Code::Mult, Word(1), Nothing),
+    (Code::TruncDiv, Word(1), Word(1)),
+    (Code::TruncMod, Word(0), Word(0)),
+    (Code::BitAnd, Greatest, Greatest),
+    (Code::BitIor, Greatest, Greatest),
+    (Code::BitXor, Word(0), Word(0)),
+    (Code::Lshift, Nothing, Nothing),
+    (Code::Rshift, Nothing, Nothing),
+    (Code::Min, Greatest, Greatest),
+    (Code::Max, Greatest, Greatest),
+];
+
+/// The same at the least value twice.
+const AT_THE_LEAST: [(Code, Gives, Gives); 12] = [
+    (Code::Plus, Word(0), Nothing),
+    (Code::Minus, Word(0), Word(0)),
+    (Code::Mult, Word(0), Nothing),
+    (Code::TruncDiv, Nothing, Word(1)),
+    (Code::TruncMod, Nothing, Word(0)),
+    (Code::BitAnd, Least, Least),
+    (Code::BitIor, Least, Least),
+    (Code::BitXor, Word(0), Word(0)),
+    (Code::Lshift, Word(0), Nothing),
+    (Code::Rshift, Word(0), Nothing),
+    (Code::Min, Least, Least),
+    (Code::Max, Least, Least),
+];
+
+/// Looks that each row's operation of these two words gives what stands there, at the type with
+/// these ends.
+fn judge_pair(
+    rt: &impl Abort,
+    rows: &[(Code, Gives, Gives)],
+    a: Wide,
+    b: Wide,
+    least: Wide,
+    greatest: Wide,
+) {
+    let ty = least.ty();
+    for (code, unsigned, signed) in rows.iter() {
+        let gives = if ty.unsigned() { *unsigned } else { *signed };
+        assert_eq!(rt;
+            binary(rt, *code, ty, a, b),
+            expected(gives, ty, least, greatest),
+            "{code:?} of {a:?} and {b:?}"
+        );
+    }
+}
+
 #[test]
 fn two_operands_at_the_ends(rt: HostRuntime) {
-    // at the least and the greatest value: what unsigned types give, and signed ones
-    let apart = [
-        (Code::Plus, Greatest, Word(-1)),
-        (Code::Minus, Word(1), Nothing),
-        (Code::Mult, Word(0), Nothing),
-        (Code::TruncDiv, Word(0), Word(-1)),
-        (Code::TruncMod, Word(0), Word(-1)),
-        (Code::BitAnd, Word(0), Word(0)),
-        (Code::BitIor, Greatest, Word(-1)),
-        (Code::BitXor, Greatest, Word(-1)),
-        (Code::Lshift, Nothing, Nothing),
-        (Code::Rshift, Nothing, Nothing),
-        (Code::Min, Least, Least),
-        (Code::Max, Greatest, Greatest),
-    ];
-    // at the greatest value twice, and at the least value twice
-    let same = [
-        (Code::Plus, Word(-2), Nothing, Word(0), Nothing),
-        (Code::Minus, Word(0), Word(0), Word(0), Word(0)),
-        (Code::Mult, Word(1), Nothing, Word(0), Nothing),
-        (Code::TruncDiv, Word(1), Word(1), Nothing, Word(1)),
-        (Code::TruncMod, Word(0), Word(0), Nothing, Word(0)),
-        (Code::BitAnd, Greatest, Greatest, Least, Least),
-        (Code::BitIor, Greatest, Greatest, Least, Least),
-        (Code::BitXor, Word(0), Word(0), Word(0), Word(0)),
-        (Code::Lshift, Nothing, Nothing, Word(0), Nothing),
-        (Code::Rshift, Nothing, Nothing, Word(0), Nothing),
-        (Code::Min, Greatest, Greatest, Least, Least),
-        (Code::Max, Greatest, Greatest, Least, Least),
-    ];
     for (ty, least, greatest) in ends() {
         let least = word(least, ty);
         let greatest = word(greatest, ty);
-        for (code, unsigned, signed) in apart {
-            let gives = if ty.unsigned() { unsigned } else { signed };
-            assert_eq!(rt;
-                binary(&rt, code, ty, least, greatest),
-                expected(gives, ty, least, greatest),
-                "{code:?} of the ends of {ty:?}"
-            );
-        }
-        for (code, unsigned, signed, unsigned_least, signed_least) in same {
-            let gives = if ty.unsigned() { unsigned } else { signed };
-            assert_eq!(rt;
-                binary(&rt, code, ty, greatest, greatest),
-                expected(gives, ty, least, greatest),
-                "{code:?} of the greatest of {ty:?}"
-            );
-            let gives = if ty.unsigned() {
-                unsigned_least
-            } else {
-                signed_least
-            };
-            assert_eq!(rt;
-                binary(&rt, code, ty, least, least),
-                expected(gives, ty, least, greatest),
-                "{code:?} of the least of {ty:?}"
-            );
-        }
+        judge_pair(
+            &rt,
+            AT_BOTH_ENDS.as_slice(),
+            least,
+            greatest,
+            least,
+            greatest,
+        );
+        judge_pair(
+            &rt,
+            AT_THE_GREATEST.as_slice(),
+            greatest,
+            greatest,
+            least,
+            greatest,
+        );
+        judge_pair(&rt, AT_THE_LEAST.as_slice(), least, least, least, greatest);
     }
 }
 
@@ -215,55 +245,80 @@ fn comparisons_at_the_ends(rt: HostRuntime) {
     }
 }
 
+/// Looks that operations of one word give what stands there.
+fn judge_unary(rt: &impl Abort, rows: &[(Code, IntType, i128, IntType, Gives)]) {
+    for (code, ty, a, a_type, gives) in rows.iter() {
+        let a = word(*a, *a_type);
+        assert_eq!(rt;
+            unary(rt, *code, *ty, a),
+            expected(*gives, *ty, a, a),
+            "{code:?} of {a:?}"
+        );
+    }
+}
+
+/// Looks that operations of two words, the first of the operation's own type, give what stands
+/// there.
+fn judge_binary(rt: &impl Abort, rows: &[(Code, IntType, i128, i128, IntType, Gives)]) {
+    for (code, ty, a, b, b_type, gives) in rows.iter() {
+        let a = word(*a, *ty);
+        let b = word(*b, *b_type);
+        assert_eq!(rt;
+            binary(rt, *code, *ty, a, b),
+            expected(*gives, *ty, a, b),
+            "{code:?} of {a:?} and {b:?}"
+        );
+    }
+}
+
 #[test]
-fn words_worked_by_hand(rt: HostRuntime) {
+fn signs_worked_by_hand(rt: HostRuntime) {
+    let small = IntType::signed_char();
+    let byte = IntType::unsigned_char();
+    let wide = IntType::int128();
+    let unsigned = IntType::unsigned_int128();
+    let rows = [
+        (Code::Abs, small, -128, small, Nothing),
+        (Code::Abs, small, -127, small, Word(127)),
+        (Code::Absu, byte, -128, small, Word(128)),
+        (Code::Absu, unsigned, i128::MIN, wide, Word(i128::MIN)),
+        (Code::Negate, small, 127, small, Word(-127)),
+    ];
+    judge_unary(&rt, rows.as_slice());
+}
+
+#[test]
+fn conversions_worked_by_hand(rt: HostRuntime) {
+    let boolean = IntType::boolean();
+    let small = IntType::signed_char();
+    let byte = IntType::unsigned_char();
+    let int = IntType::int();
+    let long = IntType::long();
+    let unsigned_long = IntType::unsigned_long();
+    let wide = IntType::int128();
+    let unsigned = IntType::unsigned_int128();
+    let all_ones = Word(18_446_744_073_709_551_615);
+    let rows = [
+        (Code::Convert, small, 300, int, Word(44)),
+        (Code::Convert, small, 200, byte, Word(-56)),
+        (Code::Convert, boolean, 300, int, Word(0)),
+        (Code::Convert, boolean, -1, int, Word(1)),
+        (Code::Convert, long, -5, small, Word(-5)),
+        (Code::Convert, unsigned_long, -1, small, all_ones),
+        (Code::Convert, wide, i128::MIN, unsigned, Word(i128::MIN)),
+    ];
+    judge_unary(&rt, rows.as_slice());
+}
+
+#[test]
+fn shifts_worked_by_hand(rt: HostRuntime) {
     let boolean = IntType::boolean();
     let small = IntType::signed_char();
     let byte = IntType::unsigned_char();
     let int = IntType::int();
     let long = IntType::long();
     let wide = IntType::int128();
-    let unary_rows = [
-        (Code::Abs, small, -128, small, Nothing),
-        (Code::Abs, small, -127, small, Word(127)),
-        (Code::Absu, byte, -128, small, Word(128)),
-        (
-            Code::Absu,
-            IntType::unsigned_int128(),
-            i128::MIN,
-            wide,
-            Word(i128::MIN),
-        ),
-        (Code::Convert, small, 300, int, Word(44)),
-        (Code::Convert, small, 200, byte, Word(-56)),
-        (Code::Convert, boolean, 300, int, Word(0)),
-        (Code::Convert, boolean, -1, int, Word(1)),
-        (Code::Convert, long, -5, small, Word(-5)),
-        (
-            Code::Convert,
-            IntType::unsigned_long(),
-            -1,
-            small,
-            Word(18_446_744_073_709_551_615),
-        ),
-        (
-            Code::Convert,
-            wide,
-            i128::MIN,
-            IntType::unsigned_int128(),
-            Word(i128::MIN),
-        ),
-        (Code::Negate, small, 127, small, Word(-127)),
-    ];
-    for (code, ty, a, a_type, gives) in unary_rows {
-        let a = word(a, a_type);
-        assert_eq!(rt;
-            unary(&rt, code, ty, a),
-            expected(gives, ty, a, a),
-            "{code:?} of {a:?}"
-        );
-    }
-    let binary_rows = [
+    let rows = [
         (Code::Lshift, int, 1, 31, int, Word(-2_147_483_648)),
         (Code::Lshift, int, 3, 31, byte, Word(-2_147_483_648)),
         (Code::Lshift, int, 1, 32, int, Nothing),
@@ -275,6 +330,18 @@ fn words_worked_by_hand(rt: HostRuntime) {
         (Code::Rshift, int, -5, 1, int, Word(-3)),
         (Code::Rshift, byte, 255, 7, wide, Word(1)),
         (Code::Rshift, wide, i128::MIN, 127, int, Word(-1)),
+    ];
+    judge_binary(&rt, rows.as_slice());
+}
+
+#[test]
+fn arithmetic_worked_by_hand(rt: HostRuntime) {
+    let boolean = IntType::boolean();
+    let small = IntType::signed_char();
+    let byte = IntType::unsigned_char();
+    let int = IntType::int();
+    let wide = IntType::int128();
+    let rows = [
         (Code::TruncDiv, int, -7, 2, int, Word(-3)),
         (Code::TruncMod, int, -7, 2, int, Word(-1)),
         (Code::TruncMod, int, 7, -2, int, Word(1)),
@@ -287,73 +354,62 @@ fn words_worked_by_hand(rt: HostRuntime) {
         (Code::Min, small, -1, 1, small, Word(-1)),
         (Code::Max, byte, -1, 1, byte, Word(255)),
     ];
-    for (code, ty, a, b, b_type, gives) in binary_rows {
-        let a = word(a, ty);
-        let b = word(b, b_type);
-        assert_eq!(rt;
-            binary(&rt, code, ty, a, b),
-            expected(gives, ty, a, b),
-            "{code:?} of {a:?} and {b:?}"
-        );
-    }
+    judge_binary(&rt, rows.as_slice());
+}
+
+#[test]
+fn choices_worked_by_hand(rt: HostRuntime) {
+    let int = IntType::int();
     for (test, gives) in [(1, 5), (0, 7)] {
+        let test = word(test, IntType::boolean());
         assert_eq!(rt;
-            ternary(
-                &rt,
-                Code::Cond,
-                int,
-                word(test, boolean),
-                word(5, int),
-                word(7, int)
-            ),
+            ternary(&rt, Code::Cond, int, test, word(5, int), word(7, int)),
             Ok(word(gives, int))
         );
     }
 }
 
-#[test]
-fn overflowing_words(rt: HostRuntime) {
-    let small = IntType::signed_char();
-    let byte = IntType::unsigned_char();
-    let wide = IntType::int128();
-    let unsigned = IntType::unsigned_int128();
-    // the operands, and the word and the overflow of their sum, their difference and their product
-    let rows = [
-        (small, 127, 1, (-128, true), (126, false), (127, false)),
-        (small, -1, 1, (0, false), (-2, false), (-1, false)),
-        (small, -128, -1, (127, true), (-127, false), (-128, true)),
-        (byte, 255, 1, (0, true), (254, false), (255, false)),
-        (byte, 0, 1, (1, false), (255, true), (0, false)),
-        (byte, 16, 16, (32, false), (0, false), (0, true)),
-        (
-            unsigned,
-            1 << 64,
-            1 << 64,
-            (1 << 65, false),
-            (0, false),
-            (0, true),
-        ),
-        (
-            unsigned,
-            1 << 64,
-            1 << 63,
-            (3 << 63, false),
-            (1 << 63, false),
-            (i128::MIN, false),
-        ),
-        (unsigned, -1, -1, (-2, true), (0, false), (1, true)),
-        (
-            wide,
-            i128::MIN,
-            -1,
-            (i128::MAX, true),
-            (i128::MIN + 1, false),
-            (i128::MIN, true),
-        ),
-    ];
-    for (ty, a, b, sum, difference, product) in rows {
-        let a = word(a, ty).bits();
-        let b = word(b, ty).bits();
+/// Two operands, and the word and the overflow of their sum, of their difference and of their
+/// product.
+type Overflows = (i128, i128, (i128, bool), (i128, bool), (i128, bool));
+
+const OF_SIGNED_CHARS: [Overflows; 3] = [
+    (127, 1, (-128, true), (126, false), (127, false)),
+    (-1, 1, (0, false), (-2, false), (-1, false)),
+    (-128, -1, (127, true), (-127, false), (-128, true)),
+];
+
+const OF_UNSIGNED_CHARS: [Overflows; 3] = [
+    (255, 1, (0, true), (254, false), (255, false)),
+    (0, 1, (1, false), (255, true), (0, false)),
+    (16, 16, (32, false), (0, false), (0, true)),
+];
+
+const OF_UNSIGNED_INT128: [Overflows; 3] = [
+    (1 << 64, 1 << 64, (1 << 65, false), (0, false), (0, true)),
+    (
+        1 << 64,
+        1 << 63,
+        (3 << 63, false),
+        (1 << 63, false),
+        (i128::MIN, false),
+    ),
+    (-1, -1, (-2, true), (0, false), (1, true)),
+];
+
+const OF_INT128: [Overflows; 1] = [(
+    i128::MIN,
+    -1,
+    (i128::MAX, true),
+    (i128::MIN + 1, false),
+    (i128::MIN, true),
+)];
+
+/// Looks that each row's words and overflows are those at this type.
+fn judge_overflows(rt: &impl Abort, ty: IntType, rows: &[Overflows]) {
+    for (a, b, sum, difference, product) in rows.iter() {
+        let a = word(*a, ty).bits();
+        let b = word(*b, ty).bits();
         assert_eq!(rt;
             add_overflow(a, b, ty),
             (word(sum.0, ty).bits(), sum.1),
@@ -370,6 +426,24 @@ fn overflowing_words(rt: HostRuntime) {
             "{a} * {b} at {ty:?}"
         );
     }
+}
+
+#[test]
+fn overflowing_words(rt: HostRuntime) {
+    judge_overflows(&rt, IntType::signed_char(), OF_SIGNED_CHARS.as_slice());
+    judge_overflows(&rt, IntType::unsigned_char(), OF_UNSIGNED_CHARS.as_slice());
+    judge_overflows(
+        &rt,
+        IntType::unsigned_int128(),
+        OF_UNSIGNED_INT128.as_slice(),
+    );
+    judge_overflows(&rt, IntType::int128(), OF_INT128.as_slice());
+}
+
+#[test]
+fn overflowing_negations(rt: HostRuntime) {
+    let small = IntType::signed_char();
+    let byte = IntType::unsigned_char();
     for (ty, a, negative) in [
         (small, -128, (-128, true)),
         (small, 127, (-127, false)),
