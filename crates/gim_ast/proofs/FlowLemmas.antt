@@ -1,11 +1,10 @@
 -- What paths see of a function stays under another operand, right side or condition; and there is at most one first unreadable use.
-use Rattle.std.proofs.Common.{◌≡◌, ℕ, Bool, true, false, List, [], ◌∷◌, ◌++◌, eqb, map, cond, refl, sym, ap, ◌∙◌, subst}
+use Rattle.std.proofs.Common.{◌≡◌, ℕ, true, false, List, [], ◌∷◌, ◌++◌, eqb, map, cond, refl, sym, ap, ◌∙◌, subst}
 use Rattle.std.specs.List.{AllByRecursion}
 use Rattle.pm_ops.specs.declared.code.Code.{Code}
 use Rattle.pm_wide.specs.declared.operand.Operand.{Operand}
 use Rattle.gim_ast.specs.declared.function.Function.{Function}
 use Rattle.gim_ast.specs.declared.function.Block.{Block}
-use Rattle.gim_ast.specs.declared.function.Phi.{Phi}
 use Rattle.gim_ast.specs.declared.function.Stmt.{Stmt}
 use Rattle.gim_ast.specs.declared.function.Rhs.{Rhs}
 use Rattle.gim_ast.specs.declared.function.End.{End}
@@ -13,7 +12,7 @@ use Rattle.gim_ast.specs.declared.function.End.TheVariants.{Goto, If, Return}
 use Rattle.gim_ast.specs.Functions.{phi_name, stmt_name, assigned_in, targets_of}
 use Rattle.gim_ast.specs.Substitution.{put_in_phi, put_in_stmt, put_in_end, put_in_block, put_in_all, with_rhs_in_stmt, with_rhs, with_condition_in_end, with_condition}
 use Rattle.gim_ast.specs.Paths.{Stretch, stretch_of, flow_of}
-use Rattle.gim_ast.specs.Readable.{Use, uses_in, IsReadableUse, IsValid, IsFirstUnreadable}
+use Rattle.gim_ast.specs.Readable.{Use, IsReadableUse, IsValid, IsFirstUnreadable}
 use Rattle.gim_ast.proofs.DistinctLemmas.{rest_of, first_or}
 
 -- a change of elements that what is seen of them doesn't show

@@ -1,5 +1,5 @@
 -- More fuel changes no outcome but Running.
-use Rattle.std.proofs.Common.{◌≡◌, ℕ, zero, suc, ◌+◌, ◌-◌, ◌≤◌, List, refl, sym, ap, subst, ◌∙◌, ◌⊎◌, inl, inr, arith}
+use Rattle.std.proofs.Common.{◌≡◌, ℕ, zero, suc, ◌+◌, ◌-◌, ◌≤◌, List, refl, sym, subst, ◌∙◌, ◌⊎◌, inl, inr, arith}
 use Rattle.pm_wide.specs.Types.{Word}
 use Rattle.gim_ast.specs.declared.function.Function.{Function}
 use Rattle.gim_ast.specs.Runs.{Outcome, Running, Place, Step, Further, Ended, outcome_of, step_at, run_from, start_of, run_of}

@@ -47,7 +47,7 @@ capped_from_zero limit ds = let e : 0 ≡ min 0 limit = omega arith in ap (λ m.
 
 -- ---- texts of numbers
 
-number_text_is_digits : (bs : List ℕ) → is_number_text bs ≡ true → list_all is_digit bs ≡ true
+pub number_text_is_digits : (bs : List ℕ) → is_number_text bs ≡ true → list_all is_digit bs ≡ true
 number_text_is_digits [] h = absurd (false≢true h)
 number_text_is_digits (b ∷ []) h = and_from (is_digit b) true h refl
 number_text_is_digits (b ∷ c ∷ bs) h =
@@ -70,7 +70,7 @@ number_text_from (b ∷ c ∷ bs) h long first =
     let other : b ≢ 48 = λ e. let two : length (b ∷ c ∷ bs) ≡ 1 = first e in absurd (omega arith) in
     and_from (is_digit b && not (b == 48)) (list_all is_digit (c ∷ bs)) (and_from (is_digit b) (not (b == 48)) p.0 (not_from_false (b == 48) (ne_eqb b 48 other))) p.1
 
-decimal_is_number_text : (n : ℕ) → n < 2 ^ 64 → is_number_text (decimal n) ≡ true
+pub decimal_is_number_text : (n : ℕ) → n < 2 ^ 64 → is_number_text (decimal n) ≡ true
 decimal_is_number_text n lt = number_text_from (decimal n) (digits_decimal own n lt) (decimal_nonempty n lt) (λ e. one n lt e) where
   one : (n : ℕ) → n < 2 ^ 64 → get_or (decimal n) 0 0 ≡ 48 → length (decimal n) ≡ 1
   one zero lt e = ap length (decimal_digit 0 (omega arith))

@@ -1,5 +1,5 @@
 -- Where a name is fresh, its support is: by induction over the path.
-use Rattle.std.proofs.Common.{◌≡◌, ℕ, Bool, true, false, List, [], ◌∷◌, subst, sym, inl, inr, ⊎_elim}
+use Rattle.std.proofs.Common.{◌≡◌, ℕ, Bool, List, [], ◌∷◌, subst, inr, ⊎_elim}
 use Rattle.std.specs.Bool.{IsTrue}
 use Rattle.gim_ast.specs.WellFormed.{is_among}
 use Rattle.gim_ast.specs.Paths.{Stretch, Path, enter, item, jump}

@@ -1,6 +1,7 @@
 pub mod Functions
 pub mod Identifiers
 pub mod Numbers
+pub mod Parts
 pub mod Paths
 pub mod Printing
 pub mod Readable

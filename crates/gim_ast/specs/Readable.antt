@@ -1,5 +1,5 @@
 -- Where a name may be read: it holds there what its operation gives on the present values of its operands.
-use Rattle.std.specs.Prelude.{◌≡◌, ℕ, ◌+◌, Bool, false, IsTrue, Option, List, [], ◌∷◌, ◌++◌, ◌⊎◌, length, map}
+use Rattle.std.specs.Prelude.{◌≡◌, ℕ, ◌+◌, Bool, false, IsTrue, List, [], ◌∷◌, ◌++◌, ◌⊎◌, length, map}
 use Rattle.std.specs.List.{flat_map, AllByRecursion}
 use Rattle.std.specs.Option.{option_map_or}
 use Rattle.pm_wide.specs.declared.operand.Operand.{Operand}

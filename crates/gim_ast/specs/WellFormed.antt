@@ -179,3 +179,7 @@ pub record IsWellFormed (f : Function) : Type 0 where
   pub blocks : IsTrue (blocks_hold f)
   pub operands : IsTrue (operands_hold f)
   pub bounds : IsTrue (bounds_hold f)
+
+-- the same as one test
+abbrev pub is_well_formed : Function → Bool
+is_well_formed f = declarations_hold f && types_hold f && names_hold f && blocks_hold f && operands_hold f && bounds_hold f

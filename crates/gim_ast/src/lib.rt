@@ -1,11 +1,17 @@
 //! GIMPLE functions in static single assignment form, and what it means to change them.
 //!
-//! The types are here, and the definitions that speak of functions alone: places and uses, substitution,
-//! removal of what is unused, subjects and the rewriting.
+//! The types are here, with equal copies and the test of the rules on them, and the definitions that speak of functions
+//! alone: places and uses, substitution, removal of what is unused, subjects and the rewriting.
 #![tactic(auto)]
 
+mod copying;
 mod function;
+pub mod laws;
 mod operands;
+mod rules;
 
 pub use function::{Block, Decl, End, Function, NameRow, Phi, Rhs, Stmt};
 pub use operands::Operands;
+
+#[cfg(test)]
+mod tests;

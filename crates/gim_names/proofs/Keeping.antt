@@ -6,6 +6,7 @@ use Rattle.std.specs.Cmp.Lexicographic.{bytes_decides}
 use Rattle.std.proofs.lemmas.Bool.{and_parts, and_from, or_parts, or_from, or_left, or_right, or_cases, not_from_false, not-false, and_right, false_from_ne_true, false≢true}
 use Rattle.gim_ast.specs.Identifiers.{is_digit, is_number_text, is_anonymous}
 use Rattle.gim_ast.specs.WellFormed.{same_text, all_distinct}
+use Rattle.gim_ast.proofs.NumberLemmas.{number_text_is_digits}
 use Rattle.gim_text.specs.declared.fault.GimpleFault.{GimpleFault}
 use Rattle.gim_text.specs.declared.fault.GimpleKind.{GimpleKind}
 use Rattle.gim_text.specs.declared.fault.GimpleKind.TheVariants.{Redefined}
@@ -220,13 +221,6 @@ word_had (Constant at fits) e = not-false fits e
 
 -- ---- anonymous names
 
-number_is_digits : (bs : List ℕ) → is_number_text bs ≡ true → list_all is_digit bs ≡ true
-number_is_digits [] h = absurd (false≢true h)
-number_is_digits (b ∷ []) h = and_from (is_digit b) true h refl
-number_is_digits (b ∷ c ∷ bs) h =
-    let p = and_parts (is_digit b && not (b == 48)) (list_all is_digit (c ∷ bs)) h in
-    and_from (is_digit b) (list_all is_digit (c ∷ bs)) (and_parts (is_digit b) (not (b == 48)) p.0).0 p.1
-
 bare_by : (b : ℕ) (bytes : List ℕ) (rest : Option (List ℕ × List ℕ)) → (is_number_text bytes ≡ true → rest ≡ None) → is_bare (parts_from b rest bytes) ≡ ((b == 95) && is_number_text bytes)
 bare_by b bytes None none = here ((b == 95) && is_number_text bytes) where
   here : (t : Bool) → is_bare (if t then Some ([], bytes) else None) ≡ t
@@ -240,7 +234,7 @@ bare_by b bytes (Some p) none = sym (and_right (b == 95) (is_number_text bytes) 
 pub bare_is_anonymous : (text : List ℕ) → is_bare (name_parts text) ≡ is_anonymous text
 unfolding name_parts
 bare_is_anonymous [] = refl
-bare_is_anonymous (b ∷ bytes) = bare_by b bytes (name_parts bytes) (λ h. no_parts_in_digits bytes (number_is_digits bytes h))
+bare_is_anonymous (b ∷ bytes) = bare_by b bytes (name_parts bytes) (λ h. no_parts_in_digits bytes (number_text_is_digits bytes h))
 
 -- no parameter is anonymous
 no_bare : (source : List ℕ) (all : List Mention) (before ms : List Mention) → NoneBy (mention_fault source all) before ms → list_any is_anonymous (all_said (param_text source) ms) ≡ false

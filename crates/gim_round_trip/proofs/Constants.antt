@@ -18,6 +18,7 @@ use Rattle.gim_ast.specs.declared.function.Function.{Function}
 use Rattle.gim_ast.specs.Numbers.{number_after}
 use Rattle.gim_ast.specs.Printing.{type_text, literal_text, suffix_of, constant_text}
 use Rattle.gim_ast.specs.WellFormed.{is_type_of, is_word}
+use Rattle.gim_ast.proofs.NumberLemmas.{number_text_is_digits}
 use Rattle.gim_text.specs.declared.token.Keyword.TheVariants as keywords
 use Rattle.gim_text.specs.declared.token.Mark.TheVariants as marks
 use Rattle.gim_text.specs.declared.token.NumberKind.{NumberKind}
@@ -42,7 +43,7 @@ use Rattle.gim_statements.specs.Words.{literal_number}
 use Rattle.gim_round_trip.proofs.Prints.{Prints, word_end, joined, seen, blanks_before}
 use Rattle.gim_round_trip.proofs.Writes.{WritesOperand}
 use Rattle.gim_lexer.proofs.NumberTexts.{front_digits}
-use Rattle.gim_round_trip.proofs.Numbers.{NumberText, number_digits, decimal_writes, written_number_prints}
+use Rattle.gim_round_trip.proofs.Numbers.{NumberText, decimal_writes, written_number_prints}
 use Rattle.gim_round_trip.proofs.Tokens.{keyword_there, mark_there, a_mark_prints}
 use Rattle.gim_round_trip.proofs.TypeTexts.{type_text_prints}
 
@@ -68,7 +69,7 @@ number_text_of n suffix kind small h = record { number = (decimal_writes n small
 number_read : (n : ℕ) (suffix bs : List ℕ) (kind : NumberKind) → n < 10 ^ 64 → IsSuffix suffix kind → bs ≡ decimal n ++ suffix → number_after 0 (leading_digits bs) ≡ n
 number_read n suffix bs kind small h e =
     let w = decimal_writes n small in
-    ap (λ text. number_after 0 (leading_digits text)) e ∙ ap (number_after 0) (front_digits (decimal n) suffix (number_digits (decimal n) w.text) h.letters) ∙ w.number
+    ap (λ text. number_after 0 (leading_digits text)) e ∙ ap (number_after 0) (front_digits (decimal n) suffix (number_text_is_digits (decimal n) w.text) h.letters) ∙ w.number
 
 -- the tokens begin where the first one stands
 begins_there : (t : Token) (M : List Token → Type 0) (w : List Token) → ((λ u. u ≡ t ∷ []) ▸ M) w → BeginsAt (span_of t) w

@@ -21,7 +21,7 @@ use Rattle.gim_ast.specs.Identifiers.{is_number_text, is_anonymous, anonymous}
 use Rattle.gim_ast.specs.Numbers.{number_below, capped}
 use Rattle.gim_ast.specs.Printing.{name_text, assigned_text, is_initial, type_of_name, base_of}
 use Rattle.gim_ast.specs.WellFormed.{IsWellFormed, same_text, all_distinct, rises, base_holds, row_stands, initial_bases, names_hold, operand_holds, block_fits, phi_fits, stmt_fits, rhs_fits, numbers_of, is_among, is_assigned, blocks_hold, entry_has_no_phi, is_empty, predecessors, phi_blocks, phi_holds, type_of}
-use Rattle.gim_ast.proofs.NumberLemmas.{number_below-decimal}
+use Rattle.gim_ast.proofs.NumberLemmas.{number_below-decimal, decimal_is_number_text}
 use Rattle.gim_ast.specs.Removal.{is_used}
 use Rattle.gim_text.specs.Texts.{name_parts}
 use Rattle.gim_text.proofs.NameLemmas.{parts_found}
@@ -44,13 +44,6 @@ pub same_decimal : (a b : ℕ) → a < 2 ^ 64 → b < 2 ^ 64 → same_text (deci
 same_decimal a b small_a small_b = both_ways (same_text (decimal a) (decimal b)) (a == b)
     (λ h. eq-eqb a b (decimal_injective a b small_a small_b (same_text_is (decimal a) (decimal b) h)))
     (λ h. ap (λ n. same_text (decimal a) (decimal n)) (sym (eqb-true a b h)) ∙ text_itself (decimal a))
-
-pub number_text : (n : ℕ) → n < 2 ^ 64 → is_number_text (decimal n) ≡ true
-unfolding number_below
-number_text n small = by (is_number_text (decimal n)) (nat_lt (capped (2 ^ 64) 0 (decimal n)) (2 ^ 64)) (capped (2 ^ 64) 0 (decimal n)) (number_below-decimal (2 ^ 64) n (lit≤ tt) small) where
-  by : (t u : Bool) (m : ℕ) → cond t (cond u (Some m) None) None ≡ Some n → t ≡ true
-  by true u m e = refl
-  by false u m e = absurd cc
 
 pub number_of_decimal : (n : ℕ) → n < 1000000000 → number_of (decimal n) ≡ n
 number_of_decimal n small = ap (λ o. unwrap_or o 0) (number_below-decimal number_limit n (lit≤ tt) small)
@@ -111,7 +104,7 @@ name_facts f x row well limits found =
       small = small;
       in_names = has;
       text = text;
-      parts = ap name_parts text ∙ parts_found row.base (decimal x) (number_text x (omega (arith, small)));
+      parts = ap name_parts text ∙ parts_found row.base (decimal x) (decimal_is_number_text x (omega (arith, small)));
       initial = ap (λ o. option_map_or (λ (r : NameRow). r.initial) o false) found;
       type = ap (λ o. option_map_or (λ (r : NameRow). r.ty) o f.result) found;
       base = both.0;

@@ -13,14 +13,14 @@ use Rattle.gim_ast.specs.Functions.{row_of}
 use Rattle.gim_ast.specs.Identifiers.{is_letter, is_word_byte, is_word_text, is_number_text, is_block_word, is_reserved, is_identifier, anonymous, reserved_words}
 use Rattle.gim_ast.specs.Printing.{assigned_text}
 use Rattle.gim_ast.specs.WellFormed.{IsWellFormed, same_text, ident_of, declares_as, base_holds}
+use Rattle.gim_ast.proofs.NumberLemmas.{decimal_is_number_text, number_text_is_digits}
 use Rattle.gim_text.specs.Texts.{name_parts}
 use Rattle.gim_text.proofs.NameLemmas.{no_parts_at}
 use Rattle.gim_making.proofs.Membership.{Has, has_map, has_left, has_right, all_has, none_from_has, any_has}
 use Rattle.gim_making.proofs.PartLemmas.{same_text_is}
 use Rattle.gim_round_trip.specs.ReadBack.{IsWithinLimits}
-use Rattle.gim_round_trip.proofs.Facts.{name_facts, number_text}
+use Rattle.gim_round_trip.proofs.Facts.{name_facts}
 use Rattle.gim_lexer.proofs.LongestMatch.{number_is_word}
-use Rattle.gim_round_trip.proofs.Numbers.{number_digits}
 
 -- ---- reserved words are no names
 
@@ -45,7 +45,7 @@ block_word_has_no_parts (a ∷ b ∷ c ∷ []) base ds parts h = false≢true h
 block_word_has_no_parts (a ∷ b ∷ c ∷ d ∷ bs) base ds parts h =
     let p = and_parts ((a == 95) && (b == 95) && (c == 66) && (d == 66)) (is_number_text bs) h in
     let last : d ≡ 66 = eqb-true d 66 (and_parts ((a == 95) && (b == 95) && (c == 66)) (d == 66) p.0).1 in
-    let none : name_parts (a ∷ b ∷ c ∷ 66 ∷ bs) ≡ None = no_parts_at (a ∷ b ∷ c ∷ []) 66 bs refl (number_digits bs p.1) refl in
+    let none : name_parts (a ∷ b ∷ c ∷ 66 ∷ bs) ≡ None = no_parts_at (a ∷ b ∷ c ∷ []) 66 bs refl (number_text_is_digits bs p.1) refl in
     none_and_some (name_parts (a ∷ b ∷ c ∷ d ∷ bs)) (base, ds) (ap (λ e. name_parts (a ∷ b ∷ c ∷ e ∷ bs)) last ∙ none) parts
 
 named_is_free : (text base ds : List ℕ) → name_parts text ≡ Some (base, ds) → is_reserved text ≡ false
@@ -105,6 +105,6 @@ pub name_is_identifier : (f : Function) (x : ℕ) (row : NameRow) → IsWellForm
 name_is_identifier f x row well limits found =
     let facts = name_facts f x row well limits found in
     let small : x < 2 ^ 64 = omega (arith, facts.small) in
-    let digits = number_is_word (decimal x) (number_text x small) in
+    let digits = number_is_word (decimal x) (decimal_is_number_text x small) in
     let word : is_word_text (assigned_text f x) ≡ true = ap is_word_text facts.text ∙ name_is_word row.base (decimal x) digits (base_is_word f well row facts.base) in
     and_from (is_word_text (assigned_text f x)) (not (is_reserved (assigned_text f x))) word (not_from_false (is_reserved (assigned_text f x)) (named_is_free (assigned_text f x) row.base (decimal x) facts.parts))

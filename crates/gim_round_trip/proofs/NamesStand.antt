@@ -11,6 +11,7 @@ use Rattle.gim_ast.specs.declared.function.NameRow.{NameRow}
 use Rattle.gim_ast.specs.Identifiers.{is_number_text, is_anonymous, anonymous}
 use Rattle.gim_ast.specs.Removal.{is_used}
 use Rattle.gim_ast.specs.WellFormed.{same_text, rises, declares_as, base_holds, is_assigned}
+use Rattle.gim_ast.proofs.NumberLemmas.{decimal_is_number_text}
 use Rattle.gim_text.specs.declared.token.Span.{Span}
 use Rattle.gim_text.specs.declared.tree.FunctionText.{FunctionText}
 use Rattle.gim_text.specs.Texts.{text_of}
@@ -21,7 +22,7 @@ use Rattle.gim_making.proofs.Membership.{Has, has_left, has_right, has_either, h
 use Rattle.gim_making.proofs.NameRowLemmas.{first_of_here, first_of_in, one_of_version}
 use Rattle.gim_making.proofs.PartLemmas.{text_itself, same_text_is}
 use Rattle.gim_making.proofs.RowLemmas.{first_of_has}
-use Rattle.gim_round_trip.proofs.Facts.{of_names, row_found, name_facts, number_of_decimal, number_text}
+use Rattle.gim_round_trip.proofs.Facts.{of_names, row_found, name_facts, number_of_decimal}
 use Rattle.gim_round_trip.proofs.KnownNames.{WritesWell, declared_as, known_name}
 use Rattle.gim_round_trip.proofs.NamePlaces.{IsPlaceOf, places_in_blocks, used_version, assigned_version}
 use Rattle.gim_round_trip.proofs.PairedLists.{beside_first, beside_second}
@@ -126,7 +127,7 @@ local_placed source tree f w row named bare =
     let decl = declared_as (anonymous row.version) row.ty f.decls (bare_row f row facts.base bare).1 in
     let text = beside_second (WritesDecl source) tree.decls f.decls w.writes.decls decl.0 decl.1 in
     let name : text_of source text.0.ident ≡ anonymous row.version = text.2.0 ∙ decl.2 in
-    let number : is_number_text (decimal row.version) ≡ true = number_text row.version (omega (arith, facts.small)) in
+    let number : is_number_text (decimal row.version) ≡ true = decimal_is_number_text row.version (omega (arith, facts.small)) in
     let is : is_anonymous (text_of source text.0.ident) ≡ true = ap is_anonymous name ∙ and_from (95 == 95) (is_number_text (decimal row.version)) (eq-eqb 95 95 refl) number in
     let place = plain text.0.ident in
     let here : Has (names_of_decl source text.0) place = has_anonymous (is_anonymous (text_of source text.0.ident)) text.0.ident is in

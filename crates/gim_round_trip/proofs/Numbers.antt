@@ -13,6 +13,7 @@ use Rattle.std.proofs.Math.Nat.{mod-lt}
 use Rattle.std.proofs.Math.Seq.{take-append_seam, drop-append_seam}
 use Rattle.gim_ast.specs.Identifiers.{is_digit, is_number_text, is_word_byte}
 use Rattle.gim_ast.specs.Numbers.{number_after}
+use Rattle.gim_ast.proofs.NumberLemmas.{number_text_is_digits}
 use Rattle.gim_text.specs.declared.token.NumberKind.{NumberKind}
 use Rattle.gim_text.specs.declared.token.Token.{Token}
 use Rattle.gim_text.specs.declared.token.Token.TheVariants as tokens
@@ -26,13 +27,6 @@ use Rattle.gim_round_trip.proofs.Prints.{Prints, Ends, word_end, token_prints}
 use Rattle.gim_round_trip.proofs.Words.{run_over, begins_none}
 
 -- ---- digits
-
-pub number_digits : (bs : List ℕ) → is_number_text bs ≡ true → list_all is_digit bs ≡ true
-number_digits [] h = absurd (false≢true h)
-number_digits (b ∷ []) h = and_from (is_digit b) true h refl
-number_digits (b ∷ c ∷ bs) h =
-    let p = and_parts (is_digit b && not (b == 48)) (list_all is_digit (c ∷ bs)) h in
-    and_from (is_digit b) (list_all is_digit (c ∷ bs)) (and_parts (is_digit b) (not (b == 48)) p.0).0 p.1
 
 -- one digit more behind a number that isn't 0
 still_number_text : (bs : List ℕ) (d : ℕ) → is_number_text bs ≡ true → 0 < number_after 0 bs → is_digit d ≡ true → is_number_text (bs ++ d ∷ []) ≡ true
@@ -108,7 +102,7 @@ number_there at n m text digits suffix rest run front left letters last = rw (ru
 
 begins_with_digit : (ds rest : List ℕ) → is_number_text ds ≡ true → (b : ℕ) × (text : List ℕ) × (is_digit b ≡ true) × (ds ++ rest ≡ b ∷ text)
 begins_with_digit [] rest h = absurd (false≢true h)
-begins_with_digit (b ∷ ds) rest h = (b, ds ++ rest, (and_parts (is_digit b) (list_all is_digit ds) (number_digits (b ∷ ds) h)).0, refl)
+begins_with_digit (b ∷ ds) rest h = (b, ds ++ rest, (and_parts (is_digit b) (list_all is_digit ds) (number_text_is_digits (b ∷ ds) h)).0, refl)
 
 -- the text of a number, with the token that it is
 pub record NumberText (digits suffix : List ℕ) (kind : NumberKind) : Type 0 where
@@ -119,7 +113,7 @@ pub record NumberText (digits suffix : List ℕ) (kind : NumberKind) : Type 0 wh
 number_apart : (digits suffix rest : List ℕ) → is_number_text digits ≡ true → (l : Bool) → separator_length l ((digits ++ suffix) ++ rest) ≡ None
 number_apart [] suffix rest h l = absurd (false≢true h)
 number_apart (b ∷ ds) suffix rest h l =
-    let digit = (and_parts (is_digit b) (list_all is_digit ds) (number_digits (b ∷ ds) h)).0 in
+    let digit = (and_parts (is_digit b) (list_all is_digit ds) (number_text_is_digits (b ∷ ds) h)).0 in
     begins_none l b ((ds ++ suffix) ++ rest) (digit_is_no_space b digit) (digit_is_no_slash b digit) (digit_is_no_semicolon b digit)
 
 kind_of : (digits suffix : List ℕ) (kind : NumberKind) → NumberText digits suffix kind → number_kind digits suffix ≡ kind
@@ -130,7 +124,7 @@ number_cut : (digits suffix rest : List ℕ) (kind : NumberKind) → NumberText 
     → number_at at (digits ++ (suffix ++ rest)) ≡ tokens.Number kind (place at (length (digits ++ suffix)))
 number_cut digits suffix rest kind h at ends =
     number_there at (length digits) (length suffix) (digits ++ (suffix ++ rest)) digits suffix (suffix ++ rest)
-    (run_over is_digit digits (suffix ++ rest) (number_digits digits h.number) (digits_end suffix rest h.letters ends))
+    (run_over is_digit digits (suffix ++ rest) (number_text_is_digits digits h.number) (digits_end suffix rest h.letters ends))
     (take-append_seam digits (suffix ++ rest)) (drop-append_seam digits (suffix ++ rest))
     (run_over is_suffix_letter suffix rest h.letters (suffix_ends rest ends)) (take-append_seam suffix rest)
     ∙ ap (λ k. tokens.Number k (place at (length digits + length suffix))) (kind_of digits suffix kind h)

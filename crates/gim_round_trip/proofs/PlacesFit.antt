@@ -22,6 +22,7 @@ use Rattle.gim_ast.specs.Functions.{operands_of, operands_of_block, operands_of_
 use Rattle.gim_ast.specs.Identifiers.{is_anonymous, anonymous}
 use Rattle.gim_ast.specs.Printing.{assigned_text}
 use Rattle.gim_ast.specs.WellFormed.{IsWellFormed, same_text, block_fits, phi_fits, stmt_fits}
+use Rattle.gim_ast.proofs.NumberLemmas.{decimal_is_number_text}
 use Rattle.gim_text.specs.declared.token.Span.{Span}
 use Rattle.gim_text.specs.declared.tree.BlockText.{BlockText}
 use Rattle.gim_text.specs.declared.tree.DeclText.{DeclText}
@@ -46,7 +47,7 @@ use Rattle.gim_making.specs.Names.{version_of}
 use Rattle.gim_making.proofs.Membership.{Has, has_left, has_right, has_either, has_map, has_flat, all_has, any_has}
 use Rattle.gim_making.proofs.PartLemmas.{same_text_is}
 use Rattle.gim_round_trip.specs.ReadBack.{IsWithinLimits}
-use Rattle.gim_round_trip.proofs.Facts.{of_names, number_text, name_facts, row_found, each_operand_holds, operand_row, each_block_fits, phi_row, stmt_row, number_is_small, target_is_small, phi_block_is_small}
+use Rattle.gim_round_trip.proofs.Facts.{of_names, name_facts, row_found, each_operand_holds, operand_row, each_block_fits, phi_row, stmt_row, number_is_small, target_is_small, phi_block_is_small}
 use Rattle.gim_round_trip.proofs.PairedLists.{beside_first}
 use Rattle.gim_round_trip.proofs.Writes.{WritesOperand, WritesForm, WritesArg, WritesPhi, WritesStmt, WritesEnd, WritesBlock, WritesDecl, Writes}
 
@@ -194,7 +195,7 @@ module _ (source : List ℕ) (f : Function) (well : IsWellFormed f) (limits : Is
       let row = found.0 in
       let facts = name_facts f row.version row well limits (row_found f well row found.1) in
       let is : text_of source at ≡ 95 ∷ decimal row.version = text ∙ sym (same_text_is (anonymous row.version) decl.ident (and_parts (same_text row.base []) (same_text (anonymous row.version) decl.ident) found.2).1) in
-      let parts : name_parts (text_of source at) ≡ Some ([], decimal row.version) = ap name_parts is ∙ parts_found [] (decimal row.version) (number_text row.version (omega (arith, facts.small))) in
+      let parts : name_parts (text_of source at) ≡ Some ([], decimal row.version) = ap name_parts is ∙ parts_found [] (decimal row.version) (decimal_is_number_text row.version (omega (arith, facts.small))) in
       (row.version, has_map version_of f.names row found.1, facts.small, ap (λ o. option_map (λ (q : List ℕ × List ℕ). q.1) o) parts)
 
   local_fits : (b : Bool) (tree : DeclText) (decl : Decl) → Has f.decls decl → text_of source tree.ident ≡ decl.ident → is_anonymous (text_of source tree.ident) ≡ b → PlacesFit source f 0 (cond b (places.Name tree.ident ∷ []) [])

@@ -13,6 +13,7 @@ use Rattle.gim_ast.specs.Functions.{assigned}
 use Rattle.gim_ast.specs.Identifiers.{is_anonymous, anonymous}
 use Rattle.gim_ast.specs.Printing.{assigned_text}
 use Rattle.gim_ast.specs.WellFormed.{IsWellFormed, same_text, all_distinct, ident_of, initial_bases, numbers_of}
+use Rattle.gim_ast.proofs.NumberLemmas.{decimal_is_number_text}
 use Rattle.gim_text.specs.declared.tree.FunctionText.{FunctionText}
 use Rattle.gim_text.specs.Texts.{text_of, name_parts}
 use Rattle.gim_text.proofs.NameLemmas.{parts_found}
@@ -26,7 +27,7 @@ use Rattle.gim_making.proofs.NameRowLemmas.{one_of_version}
 use Rattle.gim_making.proofs.PartLemmas.{some_is, same_text_is, text_itself, bare_is_anonymous}
 use Rattle.gim_making.proofs.PlaceLemmas.{from_said}
 use Rattle.gim_round_trip.specs.ReadBack.{IsWithinLimits}
-use Rattle.gim_round_trip.proofs.Facts.{number_text, of_names, of_blocks, row_found, name_facts, number_is_small}
+use Rattle.gim_round_trip.proofs.Facts.{of_names, of_blocks, row_found, name_facts, number_is_small}
 use Rattle.gim_round_trip.proofs.Mentioned.{MentionIs, mention_is, assigned_row}
 use Rattle.gim_round_trip.proofs.Never.{NeverBy, never_either, never_twice, never_both, never_differs}
 use Rattle.gim_round_trip.proofs.Said.{declared_said, numbers_said, assigned_said}
@@ -172,7 +173,7 @@ module _ (source : List ℕ) (f : Function) (well : IsWellFormed f) (limits : Is
   anonymous_pair ident p there e =
       let parts = anonymous_by (name_parts ident) p e in
       let row = local_row ident there (bare_is_anonymous ident parts.0 parts.1) in
-      let found : name_parts ident ≡ Some ([], decimal row.0.version) = ap name_parts (sym row.3) ∙ parts_found [] (decimal row.0.version) (number_text row.0.version (omega (arith, row_is_small row.0 row.1))) in
+      let found : name_parts ident ≡ Some ([], decimal row.0.version) = ap name_parts (sym row.3) ∙ parts_found [] (decimal row.0.version) (decimal_is_number_text row.0.version (omega (arith, row_is_small row.0 row.1))) in
       let version : parts.0 ≡ decimal row.0.version = ap (λ (q : List ℕ × List ℕ). q.1) (some_is ([], parts.0) ([], decimal row.0.version) (sym parts.1 ∙ found)) in
       (row.0, row.1, parts.2 ∙ ap (λ v. (v, [])) version ∙ ap (λ b. (decimal row.0.version, b)) (sym row.2))
 

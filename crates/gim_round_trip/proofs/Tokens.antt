@@ -7,6 +7,7 @@ use Rattle.pm_ops.specs.declared.code.Code.{Code}
 use Rattle.pm_ops.specs.Codes.{is_comparison_code}
 use Rattle.gim_ast.specs.Identifiers.{is_word_text, is_number_text, is_identifier}
 use Rattle.gim_ast.specs.Printing.{sign_text}
+use Rattle.gim_ast.proofs.NumberLemmas.{decimal_is_number_text}
 use Rattle.gim_text.specs.declared.token.Span.{Span}
 use Rattle.gim_text.specs.declared.token.Token.{Token}
 use Rattle.gim_text.specs.declared.token.Token.TheVariants as tokens
@@ -26,7 +27,6 @@ use Rattle.gim_statements.specs.Words.{comparison_code, infix_code}
 use Rattle.gim_syntax.specs.Grammar.{IsSsa}
 use Rattle.gim_round_trip.proofs.Prints.{Prints, any_end, word_end, blank_end, seen}
 use Rattle.gim_round_trip.proofs.Writes.{NamesBlock}
-use Rattle.gim_round_trip.proofs.Facts.{number_text}
 use Rattle.gim_round_trip.proofs.Words.{word_prints, identifier_is_word, identifier_means}
 use Rattle.gim_lexer.proofs.LongestMatch.{number_is_word}
 use Rattle.gim_round_trip.proofs.Numbers.{written_number_prints}
@@ -171,13 +171,13 @@ block_token (d ∷ ds) span h = rw h refl
 pub block_word_prints : (source : List ℕ) (n : ℕ) → n < 2 ^ 64 → Prints source word_end (λ (at : Span). Meant block_word at) (λ at. NamesBlock source at n) (codes "__BB" ++ decimal n)
 block_word_prints source n small =
     let bs = codes "__BB" ++ decimal n in
-    word_prints source bs (λ at. place at (length bs)) (number_is_word (decimal n) (number_text n small))
-    (λ at. (word_token bs (place at (length bs)), ap block_word (block_token (decimal n) (place at (length bs)) (number_text n small)), refl)) (λ at e. ap (drop 4) e)
+    word_prints source bs (λ at. place at (length bs)) (number_is_word (decimal n) (decimal_is_number_text n small))
+    (λ at. (word_token bs (place at (length bs)), ap block_word (block_token (decimal n) (place at (length bs)) (decimal_is_number_text n small)), refl)) (λ at e. ap (drop 4) e)
 
 -- a number without a suffix
 pub number_prints : (source : List ℕ) (n : ℕ) → n < 2 ^ 64 → Prints source word_end (λ (at : Span). Meant plain_number at) (λ at. text_of source at ≡ decimal n) (decimal n)
 number_prints source n small =
     let bs = decimal n ++ [] in
     subst (Prints source word_end (λ (at : Span). Meant plain_number at) (λ at. text_of source at ≡ decimal n)) (append-nil (decimal n))
-    (written_number_prints source (decimal n) [] Plain (λ at. place at (length bs)) (record { number = number_text n small; letters = refl; kind_is = refl })
+    (written_number_prints source (decimal n) [] Plain (λ at. place at (length bs)) (record { number = decimal_is_number_text n small; letters = refl; kind_is = refl })
     (λ at. (tokens.Number Plain (place at (length bs)), refl, refl)) (λ at e. e ∙ append-nil (decimal n)))

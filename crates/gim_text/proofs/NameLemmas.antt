@@ -5,21 +5,15 @@ use Rattle.std.specs.List.{list_all}
 use Rattle.std.proofs.lemmas.Bool.{ne_eqb, and_parts, and_from, and_left, and_right, false_from_ne_true, false≢true}
 use Rattle.std.proofs.lemmas.List.{take-append-drop}
 use Rattle.gim_ast.specs.Identifiers.{is_digit, is_number_text}
+use Rattle.gim_ast.proofs.NumberLemmas.{number_text_is_digits}
 use Rattle.gim_text.specs.Texts.{name_parts}
-
-number_is_digits : (bs : List ℕ) → is_number_text bs ≡ true → list_all is_digit bs ≡ true
-number_is_digits [] h = absurd (false≢true h)
-number_is_digits (b ∷ []) h = and_from (is_digit b) true h refl
-number_is_digits (b ∷ c ∷ bs) h =
-    let p = and_parts (is_digit b && not (b == 48)) (list_all is_digit (c ∷ bs)) h in
-    and_from (is_digit b) (list_all is_digit (c ∷ bs)) (and_parts (is_digit b) (not (b == 48)) p.0).0 p.1
 
 other_among : (front : List ℕ) (b : ℕ) (ds : List ℕ) → is_digit b ≡ false → list_all is_digit (front ++ b ∷ ds) ≡ false
 other_among [] b ds h = and_left (is_digit b) (list_all is_digit ds) h
 other_among (c ∷ front) b ds h = and_right (is_digit c) (list_all is_digit (front ++ b ∷ ds)) (other_among front b ds h)
 
 no_number : (front : List ℕ) (b : ℕ) (ds : List ℕ) → is_digit b ≡ false → is_number_text (front ++ b ∷ ds) ≡ false
-no_number front b ds h = false_from_ne_true (is_number_text (front ++ b ∷ ds)) (λ t. false≢true (sym (other_among front b ds h) ∙ number_is_digits (front ++ b ∷ ds) t))
+no_number front b ds h = false_from_ne_true (is_number_text (front ++ b ∷ ds)) (λ t. false≢true (sym (other_among front b ds h) ∙ number_text_is_digits (front ++ b ∷ ds) t))
 
 -- digits alone are no name
 pub no_parts_in_digits : (ds : List ℕ) → list_all is_digit ds ≡ true → name_parts ds ≡ None
@@ -33,7 +27,7 @@ no_parts_in_digits (d ∷ ds) h =
 -- a base, an underscore and a number
 pub parts_found : (base ds : List ℕ) → is_number_text ds ≡ true → name_parts (base ++ 95 ∷ ds) ≡ Some (base, ds)
 unfolding name_parts
-parts_found [] ds number = rw (no_parts_in_digits ds (number_is_digits ds number), number) refl
+parts_found [] ds number = rw (no_parts_in_digits ds (number_text_is_digits ds number), number) refl
 parts_found (b ∷ base) ds number = rw (parts_found base ds number) refl
 
 -- no name ends in digits that are no number, or that follow another byte than an underscore

@@ -1,8 +1,0 @@
-mod Search
-mod Parts
-mod DeclarationParts
-mod NameParts
-mod BlockParts
-mod OperandParts
-mod BoundParts
-mod Whole

@@ -1,6 +1,0 @@
-use Rattle.std.proofs.Common.{◌≡◌, drop}
-use Rattle.gim_forms.specs.Parts.{count_in_blocks}
-use Rattle.gim_forms.proofs.bounds.count_in_blocks.Given as goal
-
-abbrev pub invariant-loop-block : goal.invariant-loop-block
-invariant-loop-block l = count_in_blocks l.total (drop l.block-index l.blocks) ≡ count_in_blocks l.count l.blocks

@@ -1,6 +1,0 @@
-use Rattle.std.proofs.Common.{◌≡◌, drop}
-use Rattle.gim_forms.specs.Parts.{count_in_phis}
-use Rattle.gim_forms.proofs.bounds.count_in_phis.Given as goal
-
-abbrev pub invariant-loop-phi : goal.invariant-loop-phi
-invariant-loop-phi l = count_in_phis l.total (drop l.phi-index l.phis) ≡ count_in_phis l.count l.phis

@@ -1,6 +1,0 @@
-use Rattle.std.proofs.Common.{◌≡◌, drop}
-use Rattle.gim_forms.specs.Parts.{count_in_stmts}
-use Rattle.gim_forms.proofs.bounds.count_in_stmts.Given as goal
-
-abbrev pub invariant-loop-stmt : goal.invariant-loop-stmt
-invariant-loop-stmt l = count_in_stmts l.total (drop l.stmt-index l.stmts) ≡ count_in_stmts l.count l.stmts

@@ -1,5 +1,0 @@
-use Rattle.gim_forms.proofs.Whole.{test_is_rules}
-use Rattle.gim_forms.proofs.laws.test_says_the_rules.Goals as goal
-
-pub returns : goal.returns
-returns c = test_is_rules
