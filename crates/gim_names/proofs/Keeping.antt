@@ -3,8 +3,8 @@ use Rattle.std.proofs.Common.{◌≡◌, ◌⊎◌, ℕ, zero, suc, Bool, true, 
 use Rattle.std.specs.Prelude.{if◌then◌else◌, not, ◌||◌, ◌&&◌, ◌==◌, Contains}
 use Rattle.std.specs.List.{list_any, list_all}
 use Rattle.std.specs.Cmp.Lexicographic.{bytes_decides}
-use Rattle.std.proofs.lemmas.Bool.{and_parts, and_from, or_parts, or_from, or_left, or_right, or_cases, not_from_false, not-false, and_right, false_from_ne_true, false≢true}
-use Rattle.gim_ast.specs.Identifiers.{is_digit, is_number_text, is_anonymous}
+use Rattle.std.proofs.lemmas.Bool.{and_from, or_parts, or_from, or_left, or_right, or_cases, not_from_false, not-false, and_right, false_from_ne_true, false≢true}
+use Rattle.gim_ast.specs.Identifiers.{is_number_text, is_anonymous}
 use Rattle.gim_ast.specs.WellFormed.{same_text, all_distinct}
 use Rattle.gim_ast.proofs.NumberLemmas.{number_text_is_digits}
 use Rattle.gim_text.specs.declared.fault.GimpleFault.{GimpleFault}

@@ -1,8 +1,8 @@
 -- The parts of a name, by where the last digits of its text begin.
 use Rattle.std.proofs.Common.{◌≡◌, ◌≢◌, ℕ, zero, suc, ◌-◌, ◌<◌, ◌≤◌, true, false, List, [], ◌∷◌, ◌++◌, length, get_or, take, drop, drop-cons, Some, None, refl, sym, ap, ◌∙◌, arith}
-use Rattle.std.specs.Prelude.{◌==◌, ◌&&◌, not}
+use Rattle.std.specs.Prelude.{◌==◌, ◌&&◌}
 use Rattle.std.specs.List.{list_all}
-use Rattle.std.proofs.lemmas.Bool.{ne_eqb, and_parts, and_from, and_left, and_right, false_from_ne_true, false≢true}
+use Rattle.std.proofs.lemmas.Bool.{ne_eqb, and_parts, and_left, and_right, false_from_ne_true, false≢true}
 use Rattle.std.proofs.lemmas.List.{take-append-drop}
 use Rattle.gim_ast.specs.Identifiers.{is_digit, is_number_text}
 use Rattle.gim_ast.proofs.NumberLemmas.{number_text_is_digits}
