@@ -9,6 +9,7 @@ use Rattle.gim_ast.specs.Readable.{IsValid, IsFirstUnreadable}
 use Rattle.gim_ast.proofs.FlowLemmas.{first_is_one, valid_has_no_first}
 use Rattle.gim_reader.specs.Files.{IsFile}
 use Rattle.gim_reader.proofs.OneAnswer.{one_list, no_fault, one_fault}
+use Rattle.gim_round_trip.specs.ReadBack.{MayBeReadBack}
 use Rattle.gim_round_trip.proofs.ReadFiles.{read_may_be_printed}
 use Rattle.gim_round_trip.proofs.RoundTrip.{read_back}
 use Rattle.match_top.specs.Words.{Command, Check}
@@ -132,9 +133,12 @@ check_done name Missing (Reached fs) a p e zero = absurd p
 check_done name Unread (Reached fs) a p e zero = absurd p
 check_done name Unknown (Reached fs) a p e zero = absurd p
 
+pub printed_functions : (fs : List Function) → MayBeReadBack fs → AllByRecursion IsValid fs → IsAccepted (text fs) fs
+printed_functions fs may valid = record { stands = read_back fs may; valid = valid }
+
 -- what is read and printed is read again
 printed_is_accepted : (source : List ℕ) (fs : List Function) → IsAccepted source fs → length (text fs) ≤ functions_limit → IsAccepted (text fs) fs
-printed_is_accepted source fs accepted short = record { stands = read_back fs (read_may_be_printed source fs accepted.stands short); valid = accepted.valid }
+printed_is_accepted source fs accepted short = printed_functions fs (read_may_be_printed source fs accepted.stands short) accepted.valid
 
 again_from : (again : List ℕ) (fs : List Function) (b : Answer) → IsAccepted (text fs) fs → WorksOn again (Bytes (text fs)) checked b → (b ≡ checked fs) ⊎ (b ≡ no_memory)
 again_from again fs b accepted works =
