@@ -89,6 +89,7 @@ impl<T: Eq> Eq for Boxed<T> {
     ghost laws = { T.Eq.laws };
 }
 
+/// Hashed as the value.
 impl<T: Hash> Hash for Boxed<T> {
     ghost hash_input = { T.hash_input };
 
@@ -99,6 +100,7 @@ impl<T: Hash> Hash for Boxed<T> {
     }
 }
 
+/// Shown as the value.
 impl<T: fmt::Debug> fmt::Debug for Boxed<T> {
     fn fmt<W: fmt::Write>(&self, f: &mut fmt::Formatter<W>) -> fmt::Result {
         (*self.inner).fmt(f)

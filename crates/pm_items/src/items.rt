@@ -220,6 +220,7 @@ impl<T: Copy> Items<T> {
     }
 }
 
+/// Each element in order, by reference.
 impl<'a, T> IntoIterator for &'a Items<T> {
     type Item = &'a T;
 
@@ -247,6 +248,7 @@ impl<T: Eq> Eq for Items<T> {
     ghost laws = { lists_equiv T.Eq.laws };
 }
 
+/// Hashed as a slice.
 impl<T: Hash> Hash for Items<T> {
     ghost hash_input = { fed.slice T.hash_input };
 
@@ -257,6 +259,7 @@ impl<T: Hash> Hash for Items<T> {
     }
 }
 
+/// Shown as a list.
 impl<T: fmt::Debug> fmt::Debug for Items<T> {
     fn fmt<W: fmt::Write>(&self, f: &mut fmt::Formatter<W>) -> fmt::Result {
         self.items.fmt(f)

@@ -28,9 +28,7 @@ impl<T> Shared<T> {
     {
         &self.inner
     }
-}
 
-impl<T> Shared<T> {
     /// This `Rc`. Takes no memory.
     pub fn from_rc(inner: Rc<T>) -> Shared<T>
         ensures { result ≡ inner.value }
@@ -57,7 +55,8 @@ impl<T: Drop> Shared<T> {
         })
     }
 
-    /// One more owner of the same value. Takes no memory; `Err` only where the count of owners is full.
+    /// One more owner of the same value. Takes no memory. `Err` is std's answer to a full count of owners, 2^64 - 1;
+    /// no clause of std speaks of that count, so a caller takes it as want of memory.
     pub fn share(&self) -> Result<Shared<T>, AllocError>
         ensures { IfOk result (λ s. s ≡ self.now) }
     {
@@ -82,6 +81,7 @@ impl<T: Eq> Eq for Shared<T> {
     ghost laws = { T.Eq.laws };
 }
 
+/// Hashed as the value.
 impl<T: Hash> Hash for Shared<T> {
     ghost hash_input = { T.hash_input };
 
@@ -92,6 +92,7 @@ impl<T: Hash> Hash for Shared<T> {
     }
 }
 
+/// Shown as the value.
 impl<T: fmt::Debug> fmt::Debug for Shared<T> {
     fn fmt<W: fmt::Write>(&self, f: &mut fmt::Formatter<W>) -> fmt::Result {
         (*self.inner).fmt(f)

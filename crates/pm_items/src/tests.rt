@@ -1,6 +1,8 @@
+//! Each call that takes memory, where there is enough.
 use crate::{Boxed, Items, Shared};
 use std::test::Fail;
 
+/// `Items` grow by each way that they can.
 #[test]
 fn items_take_memory(rt: HostRuntime) -> Result<(), Fail> {
     let alloc = rt.alloc();
@@ -15,6 +17,7 @@ fn items_take_memory(rt: HostRuntime) -> Result<(), Fail> {
     Ok(())
 }
 
+/// A `Boxed`, and a `Shared` with two owners.
 #[test]
 fn a_box_and_an_rc_take_memory(rt: HostRuntime) -> Result<(), Fail> {
     let alloc = rt.alloc();

@@ -1,1 +1,2 @@
+-- The module `shared`: the type `Shared`.
 pub mod Shared
