@@ -45,6 +45,16 @@ pub fn congruence_is_kept()
     ensures negatives { (m : ℕ) (a b : ℤ) → Congruent m a b → Congruent m (neg_ℤ a) (neg_ℤ b) }
 {}
 
+/// Products go through sums, differences and negatives from both sides, and group and turn at will.
+pub fn whole_numbers_are_a_ring()
+    ensures turned { (a b : ℤ) → a *ℤ b ≡ b *ℤ a }
+    ensures grouped { (a b c : ℤ) → (a *ℤ b) *ℤ c ≡ a *ℤ (b *ℤ c) }
+    ensures sums { (a b c : ℤ) → a *ℤ (b +ℤ c) ≡ a *ℤ b +ℤ a *ℤ c }
+    ensures differences { (a b c : ℤ) → a *ℤ (b -ℤ c) ≡ a *ℤ b -ℤ a *ℤ c }
+    ensures negatives { (a b : ℤ) → neg_ℤ a *ℤ b ≡ neg_ℤ (a *ℤ b) }
+    ensures one { (a : ℤ) → pos 1 *ℤ a ≡ a }
+{}
+
 /// The value of a well-typed operation on words is a word of the operation's type.
 pub fn values_are_words()
     ensures { (code : Code) (t : Ty) (args : List Word) (r : Word) →
