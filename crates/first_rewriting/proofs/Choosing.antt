@@ -8,10 +8,10 @@ use Rattle.gim_ast.specs.declared.function.Function.{Function}
 use Rattle.gim_ast.specs.declared.function.Block.{Block}
 use Rattle.gim_ast.specs.declared.function.Stmt.{Stmt}
 use Rattle.gim_ast.specs.declared.function.Rhs.{Rhs}
-use Rattle.gim_ast.specs.Subjects as subjects
-use Rattle.gim_ast.specs.Subjects.{Subject, subject_of_stmt, subjects_of_end, subjects_of_block}
-use Rattle.gim_ast.specs.Rewriting as rewriting
-use Rattle.gim_ast.specs.Rewriting.{or_else, first_some}
+use Rattle.first_patterns.specs.Subjects as subjects
+use Rattle.first_patterns.specs.Subjects.{Subject, subject_of_stmt, subjects_of_end, subjects_of_block}
+use Rattle.first_rewriting.specs.Rewriting as rewriting
+use Rattle.first_rewriting.specs.Rewriting.{or_else, first_some}
 use Rattle.first_patterns.specs.declared.row.Row.{Row}
 use Rattle.first_patterns.specs.Matching.{result_of, found_from}
 use Rattle.first_rewriting.specs.Choices.{first_found, tried, by_site, stmt_subjects, EachFolds}

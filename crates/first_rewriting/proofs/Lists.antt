@@ -8,7 +8,7 @@ use Rattle.std.proofs.lemmas.Bool.Decides.{nat_tests}
 use Rattle.gim_ast.specs.declared.function.Function.{Function}
 use Rattle.gim_ast.specs.Functions.{first_where, row_of}
 use Rattle.first_rewriting.specs.Blocks.{row_is}
-use Rattle.gim_ast.specs.Rewriting.{first_some, or_else}
+use Rattle.first_rewriting.specs.Rewriting.{first_some, or_else}
 
 pub same_fails : (a b : ℕ) → a ≡ b → not (a == b) ≡ false
 same_fails a b e = grind (arith, nat_tests)

@@ -8,8 +8,8 @@ use Rattle.std.proofs.lemmas.List.Elements.{filter-append}
 use Rattle.gim_ast.specs.declared.function.Function.{Function}
 use Rattle.gim_ast.specs.declared.function.Block.{Block}
 use Rattle.gim_ast.specs.declared.function.NameRow.{NameRow}
-use Rattle.gim_ast.specs.Functions.{assigned, assigned_in, operands_of, phi_name, stmt_name}
-use Rattle.gim_ast.specs.Removal.{is_used, last_or, last_unused, unused, without, without_in_block, pruned, pruned_by}
+use Rattle.gim_ast.specs.Functions.{assigned, assigned_in, operands_of, phi_name, stmt_name, is_used}
+use Rattle.gim_changes.specs.Removal.{last_or, last_unused, unused, without, without_in_block, pruned, pruned_by}
 use Rattle.first_rewriting.specs.Blocks.{last_unused_of, row_stays, stmt_stays}
 
 -- one more element of a list that a loop goes through, where each element changes what was found

@@ -7,8 +7,7 @@ use Rattle.pm_wide.specs.declared.operand.Operand.{Operand}
 use Rattle.gim_ast.specs.declared.function.Function.{Function}
 use Rattle.gim_ast.specs.declared.function.Block.{Block}
 use Rattle.gim_ast.specs.declared.function.Phi.{Phi}
-use Rattle.gim_ast.specs.Functions.{is_name, operands_of, operands_of_phi, operands_of_stmt, operands_of_end, operands_of_block, assigned, assigned_in, phi_name, stmt_name}
-use Rattle.gim_ast.specs.Removal.{is_used}
+use Rattle.gim_ast.specs.Functions.{is_name, operands_of, operands_of_phi, operands_of_stmt, operands_of_end, operands_of_block, assigned, assigned_in, phi_name, stmt_name, is_used}
 use Rattle.first_rewriting.specs.Blocks as parts
 use Rattle.first_rewriting.proofs.Lists.{list_any_map, list_any_flat_map}
 

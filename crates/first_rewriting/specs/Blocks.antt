@@ -8,10 +8,11 @@ use Rattle.gim_ast.specs.declared.function.Block.{Block}
 use Rattle.gim_ast.specs.declared.function.Phi.{Phi}
 use Rattle.gim_ast.specs.declared.function.Stmt.{Stmt}
 use Rattle.gim_ast.specs.declared.function.NameRow.{NameRow}
-use Rattle.gim_ast.specs.Functions.{is_name, assigned_in, operands_of_phi, operands_of_stmt, operands_of_block}
-use Rattle.gim_ast.specs.Removal.{stands_in, is_empty_text, is_used, last_or}
+use Rattle.gim_ast.specs.Functions.{is_name, assigned_in, operands_of_phi, operands_of_stmt, operands_of_block, is_used}
+use Rattle.gim_changes.specs.Trimming.{stands_in, is_empty_text}
+use Rattle.gim_changes.specs.Removal.{last_or}
 use Rattle.gim_ast.specs.declared.function.Rhs.{Rhs}
-use Rattle.gim_ast.specs.Substitution.{put, with_rhs_in_stmt, with_condition_in_end}
+use Rattle.gim_changes.specs.Substitution.{put, with_rhs_in_stmt, with_condition_in_end}
 
 abbrev pub put_in_arg : ℕ → Operand → ℕ × Operand → ℕ × Operand
 put_in_arg x by arg = (arg.0, put x by arg.1)

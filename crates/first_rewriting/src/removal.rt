@@ -2,7 +2,9 @@
 ghost use Rattle.std.specs.Prelude.{◌≡◌, ◌==◌, ◌<◌, ◌||◌, filter, map, remove, length};
 ghost use Rattle.std.specs.List.{list_any};
 ghost use Rattle.gim_ast.specs.Functions.{is_name as is_this_name, operands_of_rhs, operands_of_end, assigned, assigned_in, phi_name, stmt_name};
-ghost use Rattle.gim_ast.specs.Removal as removal;
+ghost use Rattle.gim_ast.specs.Functions as functions;
+ghost use Rattle.gim_changes.specs.Removal as removal;
+ghost use Rattle.gim_changes.specs.Trimming as trimming;
 ghost use Rattle.first_rewriting.specs.Blocks as parts;
 ghost use Rattle.first_rewriting.specs.Blocks.{last_unused_of, phi_stays, stmt_stays, row_stays};
 
@@ -13,7 +15,7 @@ use pm_wide::Operand;
 
 /// Removes what is unused, and its rows of `names` with it.
 pub(crate) fn tidy(function: &mut Function)
-    ensures { function.new ≡ removal.tidied function.old }
+    ensures { function.new ≡ trimming.tidied function.old }
 {
     prune(function);
     trim(function);
@@ -29,7 +31,7 @@ fn prune(function: &mut Function)
 }
 
 /// The last name in program order that is assigned and not used.
-#[tactic(auto, unfolding(gim_ast::specs::Removal::unused, gim_ast::specs::Functions::assigned))]
+#[tactic(auto, unfolding(gim_changes::specs::Removal::unused, gim_ast::specs::Functions::assigned))]
 fn last_unused(function: &Function) -> Option<u32>
     ensures { result ≡ removal.last_unused function.now }
 {
@@ -75,7 +77,7 @@ fn last_unused_stmt(function: &Function, stmts: &[Stmt], found: Option<u32>) -> 
 /// Whether some operand of the function is the name.
 #[tactic(auto, using(crate::proofs::Uses::is_used_by_block))]
 fn is_used(function: &Function, name: u32) -> bool
-    ensures { result ≡ removal.is_used function.now name }
+    ensures { result ≡ functions.is_used function.now name }
 {
     any_block_uses(function.blocks.as_slice(), name)
 }
@@ -151,7 +153,7 @@ fn end_uses(end: &End, name: u32) -> bool
 }
 
 /// Removes the phis and statements of a name.
-#[tactic(auto, unfolding(gim_ast::specs::Removal::without))]
+#[tactic(auto, unfolding(gim_changes::specs::Removal::without))]
 fn remove_name(function: &mut Function, name: u32)
     ensures { function.new ≡ removal.without name function.old }
 {
@@ -208,9 +210,9 @@ fn remove_stmt(stmts: &mut Items<Stmt>, at: usize)
 }
 
 /// Keeps only the rows of `names` whose names stand somewhere, and those of anonymous names.
-#[tactic(auto, unfolding(gim_ast::specs::Removal::trimmed))]
+#[tactic(auto, unfolding(gim_changes::specs::Trimming::trimmed))]
 fn trim(function: &mut Function)
-    ensures { function.new ≡ removal.trimmed function.old }
+    ensures { function.new ≡ trimming.trimmed function.old }
 {
     for i in (0..function.names.len()).rev() {
         if !row_stands(function, function.names.at(i)) {
@@ -235,7 +237,7 @@ fn row_stands(function: &Function, row: &NameRow) -> bool
 
 /// Whether a phi or a statement assigns the name, or an operand is it.
 fn stands(function: &Function, name: u32) -> bool
-    ensures { result ≡ removal.stands_in function.now name }
+    ensures { result ≡ trimming.stands_in function.now name }
 {
     is_assigned(function, name) || is_used(function, name)
 }

@@ -1,6 +1,6 @@
 //! The rewriting of a function.
 ghost use Rattle.std.specs.Prelude.{◌≡◌, ◌<◌, ◌^◌, length, IfOk};
-ghost use Rattle.gim_ast.specs.Rewriting.{rewriting_of};
+ghost use Rattle.first_rewriting.specs.Rewriting.{rewriting_of};
 ghost use Rattle.first_patterns.specs.Matching.{row_at};
 ghost use Rattle.first_rewriting.specs.Typed.{IsTyped, KeepTypes};
 ghost use Rattle.first_rewriting.specs.Views.{rewritten};

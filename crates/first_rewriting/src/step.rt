@@ -1,7 +1,7 @@
 //! A step: what it tells, and carrying a choice out.
 ghost use Rattle.std.specs.Prelude.{◌≡◌, [], IfOk};
-ghost use Rattle.gim_ast.specs.Removal.{tidied};
-ghost use Rattle.gim_ast.specs.Rewriting.{changed, base_at};
+ghost use Rattle.gim_changes.specs.Trimming.{tidied};
+ghost use Rattle.first_rewriting.specs.Rewriting.{changed, base_at};
 ghost use Rattle.first_rewriting.specs.Views.{site_of};
 ghost use Rattle.first_rewriting.specs.Choices.{result_of};
 

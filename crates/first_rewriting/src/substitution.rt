@@ -1,7 +1,7 @@
 //! An operand put for a name in every use, and other right sides and conditions.
 ghost use Rattle.std.specs.Prelude.{◌≡◌, [], ◌∷◌, map};
 ghost use Rattle.gim_ast.specs.Functions.{is_name as is_this_name};
-ghost use Rattle.gim_ast.specs.Substitution as put;
+ghost use Rattle.gim_changes.specs.Substitution as put;
 ghost use Rattle.first_rewriting.specs.Blocks.{put_in_arg as put_in_arg_lem, with_rhs_in_block, with_condition_in_block};
 
 use gim_ast::{Block, End, Function, Operands, Phi, Rhs, Stmt};
@@ -11,7 +11,7 @@ use pm_wide::Operand;
 use std::alloc::Global;
 
 /// Puts an operand for a name in every use.
-#[tactic(auto, unfolding(gim_ast::specs::Substitution::put_in_all))]
+#[tactic(auto, unfolding(gim_changes::specs::Substitution::put_in_all))]
 pub(crate) fn put_in_all(function: &mut Function, name: u32, by: &Operand)
     ensures { function.new ≡ put.put_in_all name by.now function.old }
 {
@@ -130,7 +130,7 @@ pub(crate) fn is_name(operand: &Operand, name: u32) -> bool
 }
 
 /// Makes an operation on two operands the right side of each statement of the name.
-#[tactic(auto, unfolding(gim_ast::specs::Substitution::with_rhs))]
+#[tactic(auto, unfolding(gim_changes::specs::Substitution::with_rhs))]
 pub(crate) fn set_rhs(
     alloc: Global,
     function: &mut Function,
@@ -203,7 +203,7 @@ fn set_rhs_in_stmt(
 }
 
 /// Makes a comparison the condition at the end of each block of the number.
-#[tactic(auto, unfolding(gim_ast::specs::Substitution::with_condition))]
+#[tactic(auto, unfolding(gim_changes::specs::Substitution::with_condition))]
 pub(crate) fn set_condition(
     function: &mut Function,
     number: u32,

@@ -10,8 +10,7 @@ use Rattle.gim_ast.specs.declared.function.Block.{Block}
 use Rattle.gim_ast.specs.declared.function.Phi.{Phi}
 use Rattle.gim_ast.specs.declared.function.Stmt.{Stmt}
 use Rattle.gim_ast.specs.declared.function.NameRow.{NameRow}
-use Rattle.gim_ast.specs.Functions.{is_name, operands_of, operands_of_phi, operands_of_stmt, operands_of_end, operands_of_block, assigned, assigned_in, phi_name, stmt_name}
-use Rattle.gim_ast.specs.Removal.{is_used}
+use Rattle.gim_ast.specs.Functions.{is_name, operands_of, operands_of_phi, operands_of_stmt, operands_of_end, operands_of_block, assigned, assigned_in, phi_name, stmt_name, is_used}
 use Rattle.gim_ast.specs.WellFormed.{same_text, all_distinct, rises, base_holds, is_assigned, row_stands, initial_bases, names_hold}
 use Rattle.gim_ast.specs.Parts.{uses_in_phi, uses_in_stmt, uses_in_block, phi_assigns, stmt_assigns, block_assigns, distinct_stmts, distinct_phis, distinct_names, is_later, rows_rise, is_initial_of, distinct_initials, row_stands_in, row_holds, local_holds, names_by_part}
 use Rattle.gim_ast.proofs.Parts.{and_cong, or_cong, neither, none_of_three, any_cong, all_cong, any_map, all_map, any_flat_map, any_turned}

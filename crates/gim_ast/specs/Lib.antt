@@ -3,11 +3,6 @@ pub mod Identifiers
 pub mod Numbers
 pub mod Parts
 pub mod Paths
-pub mod Printing
 pub mod Readable
-pub mod Removal
-pub mod Rewriting
 pub mod Runs
-pub mod Subjects
-pub mod Substitution
 pub mod WellFormed

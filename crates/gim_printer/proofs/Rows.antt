@@ -10,8 +10,7 @@ use Rattle.std.proofs.lemmas.Grind.{common_steps}
 use Rattle.gim_ast.specs.declared.function.Function.{Function}
 use Rattle.gim_ast.specs.declared.function.NameRow.{NameRow}
 use Rattle.gim_ast.specs.Functions.{first_where, row_of}
-use Rattle.gim_ast.specs.WellFormed.{rises}
-use Rattle.gim_ast.specs.Printing.{names_rise}
+use Rattle.gim_ast.specs.WellFormed.{rises, names_rise}
 
 pub and_left : (a b : Bool) → (a && b) ≡ true → a ≡ true
 and_left true b e = refl

@@ -1,6 +1,7 @@
 ghost use Rattle.std.specs.Prelude.{◌≡◌, ◌++◌, OnOk, IsTrue, option_copied};
 ghost use Rattle.gim_ast.specs.Functions.{row_of};
-ghost use Rattle.gim_ast.specs.Printing.{names_rise, name_text, assigned_text, used_text, type_of_name};
+ghost use Rattle.gim_ast.specs.WellFormed.{names_rise};
+ghost use Rattle.gim_printer.specs.Printing.{name_text, assigned_text, used_text, type_of_name};
 
 use crate::numbers::push_number;
 use gim_ast::{Function, NameRow};
@@ -20,7 +21,7 @@ pub fn push_name(out: &mut Items<u8>, base: &[u8], version: u32) -> Result<(), O
 }
 
 /// Appends a name of the function, as it stands where it is assigned.
-#[tactic(auto, unfolding(gim_ast::specs::Printing::base_of))]
+#[tactic(auto, unfolding(gim_printer::specs::Printing::base_of))]
 pub fn push_assigned(
     out: &mut Items<u8>,
     function: &Function,
@@ -36,7 +37,7 @@ pub fn push_assigned(
 }
 
 /// Appends a name of the function, as it stands where it is used.
-#[tactic(auto, unfolding(gim_ast::specs::Printing::is_initial))]
+#[tactic(auto, unfolding(gim_ast::specs::Readable::is_initial))]
 pub fn push_used(out: &mut Items<u8>, function: &Function, version: u32) -> Result<(), OutOfMemory>
     requires { IsTrue (names_rise function.now) }
     ensures { OnOk result (out.new ≡ out.old ++ used_text function.now version) }
@@ -49,7 +50,7 @@ pub fn push_used(out: &mut Items<u8>, function: &Function, version: u32) -> Resu
 }
 
 /// The type of a name of the function.
-#[tactic(auto, unfolding(gim_ast::specs::Printing::type_of_name))]
+#[tactic(auto, unfolding(gim_printer::specs::Printing::type_of_name))]
 pub fn type_of_name(function: &Function, version: u32) -> IntType
     requires { IsTrue (names_rise function.now) }
     ensures { result ≡ type_of_name function.now version }

@@ -1,7 +1,6 @@
 ghost use Rattle.std.specs.Prelude.{◌≡◌, IfOk, IsTrue, map};
 ghost use Rattle.gim_ast.specs.declared.function.NameRow.{NameRow};
-ghost use Rattle.gim_ast.specs.WellFormed.{rises};
-ghost use Rattle.gim_ast.specs.Printing.{names_rise};
+ghost use Rattle.gim_ast.specs.WellFormed.{rises, names_rise};
 
 use super::*;
 use gim_ast::{Block, Decl, End, NameRow, Operands, Phi, Rhs, Stmt};

@@ -1,7 +1,7 @@
 use Rattle.std.proofs.Common.{◌<◌, length, sym, ap, subst, ◌∙◌}
 use Rattle.gim_ast.specs.declared.function.Function.{Function}
 use Rattle.gim_ast.specs.Functions.{assigned}
-use Rattle.gim_ast.specs.Removal.{pruned}
+use Rattle.gim_changes.specs.Removal.{pruned}
 use Rattle.first_rewriting.proofs.Unused.{fewer_assigned, pruned_end, pruned_more}
 use Rattle.first_rewriting.proofs.removal.prune.Goals as goal
 

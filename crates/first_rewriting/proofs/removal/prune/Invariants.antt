@@ -1,6 +1,6 @@
 use Rattle.std.proofs.Common.{◌≡◌, length}
 use Rattle.gim_ast.specs.Functions.{assigned}
-use Rattle.gim_ast.specs.Removal.{pruned}
+use Rattle.gim_changes.specs.Removal.{pruned}
 use Rattle.first_rewriting.proofs.removal.prune.Given as goal
 
 -- what is left to remove leads to the same function

@@ -1,4 +1,4 @@
-use Rattle.gim_ast.specs.Removal.{without_in_block}
+use Rattle.gim_changes.specs.Removal.{without_in_block}
 use Rattle.first_rewriting.proofs.Lists.{IsMapped}
 use Rattle.first_rewriting.proofs.removal.remove_in_blocks.Given as goal
 

@@ -1,4 +1,4 @@
-use Rattle.gim_ast.specs.Substitution.{put}
+use Rattle.gim_changes.specs.Substitution.{put}
 use Rattle.first_rewriting.proofs.Lists.{IsMapped}
 use Rattle.first_rewriting.proofs.substitution.put_in_operands.Given as goal
 

@@ -1,4 +1,4 @@
-use Rattle.gim_ast.specs.Substitution.{put_in_stmt}
+use Rattle.gim_changes.specs.Substitution.{put_in_stmt}
 use Rattle.first_rewriting.proofs.Lists.{IsMapped}
 use Rattle.first_rewriting.proofs.substitution.put_in_stmts.Given as goal
 

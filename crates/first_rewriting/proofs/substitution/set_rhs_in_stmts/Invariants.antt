@@ -1,6 +1,6 @@
 use Rattle.std.proofs.Common.{◌∷◌, []}
 use Rattle.gim_ast.specs.declared.function.Rhs.TheVariants.{Op}
-use Rattle.gim_ast.specs.Substitution.{with_rhs_in_stmt}
+use Rattle.gim_changes.specs.Substitution.{with_rhs_in_stmt}
 use Rattle.first_rewriting.proofs.Lists.{IsMapped}
 use Rattle.first_rewriting.proofs.substitution.set_rhs_in_stmts.Given as goal
 

@@ -1,5 +1,5 @@
 -- The text of functions: one definition for each part of a line, and one for each form of line.
-use Rattle.std.specs.Prelude.{ℕ, ◌==◌, Bool, false, if◌then◌else◌, Option, Some, None, List, [], ◌∷◌, ◌++◌, codes, decimal, map}
+use Rattle.std.specs.Prelude.{ℕ, ◌==◌, if◌then◌else◌, Option, Some, None, List, [], ◌∷◌, ◌++◌, codes, decimal, map}
 use Rattle.std.specs.Fmt.{signed_decimal}
 use Rattle.std.specs.List.{flat_map, join_by}
 use Rattle.std.specs.Option.{option_map_or}
@@ -19,7 +19,7 @@ use Rattle.gim_ast.specs.declared.function.Rhs.TheVariants.{Copy, Op}
 use Rattle.gim_ast.specs.declared.function.End.{End}
 use Rattle.gim_ast.specs.declared.function.End.TheVariants.{Goto, If, Return}
 use Rattle.gim_ast.specs.Functions.{row_of}
-use Rattle.gim_ast.specs.WellFormed.{rises}
+use Rattle.gim_ast.specs.Readable.{is_initial}
 
 -- a line: its text, ended by a line feed
 abbrev pub line : List ℕ → List ℕ
@@ -54,19 +54,12 @@ type_text t = if t.unsigned then unsigned_type_text t.width else signed_type_tex
 
 -- ---- names
 
--- the rows of names rise by version, so that none has two: so it is in a well-formed function
-abbrev pub names_rise : Function → Bool
-names_rise f = rises (map (λ (row : NameRow). row.version) f.names)
-
 -- what the row of a name says; without a row there is no base, and the rest doesn't matter
 unfoldable pub base_of : Function → ℕ → List ℕ
 base_of f x = option_map_or (λ (row : NameRow). row.base) (row_of f x) []
 
 unfoldable pub type_of_name : Function → ℕ → Ty
 type_of_name f x = option_map_or (λ (row : NameRow). row.ty) (row_of f x) f.result
-
-unfoldable pub is_initial : Function → ℕ → Bool
-is_initial f x = option_map_or (λ (row : NameRow). row.initial) (row_of f x) false
 
 -- a name: its base, an underscore and its version
 abbrev pub name_text : List ℕ → ℕ → List ℕ

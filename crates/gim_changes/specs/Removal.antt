@@ -1,17 +1,11 @@
 -- Removal of what is unused: the last phi or statement whose name nothing uses goes, until there is none.
-use Rattle.std.specs.Prelude.{ℕ, zero, suc, ◌==◌, Bool, true, false, not, ◌||◌, Option, Some, None, List, [], ◌∷◌, length, filter, map}
-use Rattle.std.specs.List.{list_any}
+use Rattle.std.specs.Prelude.{ℕ, zero, suc, ◌==◌, not, Option, Some, None, List, [], ◌∷◌, length, filter, map}
 use Rattle.std.specs.Option.{option_map_or}
 use Rattle.gim_ast.specs.declared.function.Function.{Function}
 use Rattle.gim_ast.specs.declared.function.Block.{Block}
 use Rattle.gim_ast.specs.declared.function.Phi.{Phi}
 use Rattle.gim_ast.specs.declared.function.Stmt.{Stmt}
-use Rattle.gim_ast.specs.declared.function.NameRow.{NameRow}
-use Rattle.gim_ast.specs.Functions.{is_name, operands_of, assigned}
-
--- some operand of the function is the name
-abbrev pub is_used : Function → ℕ → Bool
-is_used f x = list_any (is_name x) (operands_of f)
+use Rattle.gim_ast.specs.Functions.{assigned, is_used}
 
 -- the names that are assigned and not used, in program order
 unfoldable pub unused : Function → List ℕ
@@ -43,21 +37,3 @@ pruned_by (suc n) f = option_map_or (λ x. pruned_by n (without x f)) (last_unus
 -- each removal takes an assigned name away, so that many are enough
 unfoldable pub pruned : Function → Function
 pruned f = pruned_by (length (assigned f)) f
-
--- ---- the rows of `names`
-
--- a phi or a statement assigns the name, or an operand is it
-abbrev pub stands_in : Function → ℕ → Bool
-stands_in f x = list_any (λ y. y == x) (assigned f) || is_used f x
-
-abbrev pub is_empty_text : List ℕ → Bool
-is_empty_text [] = true
-is_empty_text (b ∷ bs) = false
-
--- only the rows of names that stand somewhere, and of anonymous ones, which are declared
-unfoldable pub trimmed : Function → Function
-trimmed f = record f { names = filter (λ (row : NameRow). stands_in f row.version || is_empty_text row.base) f.names }
-
--- what is unused is gone, and its rows of `names` with it
-abbrev pub tidied : Function → Function
-tidied f = trimmed (pruned f)

@@ -14,9 +14,9 @@ use Rattle.gim_ast.specs.declared.function.NameRow.{NameRow}
 use Rattle.gim_ast.specs.declared.function.Rhs.{Rhs}
 use Rattle.gim_ast.specs.declared.function.Rhs.TheVariants.{Copy, Op}
 use Rattle.gim_ast.specs.Functions.{row_of, same_operand}
-use Rattle.gim_ast.specs.Substitution.{put_in_all, with_rhs, with_condition}
-use Rattle.gim_ast.specs.Removal.{tidied}
-use Rattle.gim_ast.specs.Subjects.{Site, AtStmt, AtCond, Subject, View, view_of, type_at, subjects}
+use Rattle.gim_changes.specs.Substitution.{put_in_all, with_rhs, with_condition}
+use Rattle.gim_changes.specs.Trimming.{tidied}
+use Rattle.first_patterns.specs.Subjects.{Site, AtStmt, AtCond, Subject, View, view_of, type_at, subjects}
 
 -- why a step is made: a copy, operands to exchange, operands that are all constants, or the row of that number
 pub data What : Type 0 where

@@ -1,0 +1,3 @@
+pub mod Removal
+pub mod Substitution
+pub mod Trimming
