@@ -1,4 +1,3 @@
-pub mod Blocks
 pub mod Choices
 pub mod Reaches
 pub mod Rewriting

@@ -7,10 +7,10 @@ ghost use Rattle.first_rewriting.specs.Views.{rewritten};
 
 use crate::choice::next;
 use crate::firing::Firing;
-use crate::removal::tidy;
 use crate::step::{carry_out, firing_at};
 use first_patterns::Row;
 use gim_ast::Function;
+use gim_changes::tidy;
 use pm_items::Items;
 use pm_ops::OutOfMemory;
 use std::alloc::Global;

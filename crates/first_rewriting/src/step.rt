@@ -8,9 +8,8 @@ ghost use Rattle.first_rewriting.specs.Choices.{result_of};
 use crate::choice::{Found, Outcome, bool_zero};
 use crate::firing::{Firing, Site};
 use crate::lookup::name_row;
-use crate::removal::tidy;
-use crate::substitution::{put_in_all, set_condition, set_rhs};
 use gim_ast::Function;
+use gim_changes::{put_in_all, set_condition, set_rhs, tidy};
 use pm_ops::{Code, OutOfMemory, Text};
 use std::alloc::Global;
 

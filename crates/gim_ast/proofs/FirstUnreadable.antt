@@ -3,7 +3,7 @@ use Rattle.std.proofs.Common.{◌≡◌, ℕ, List, [], ◌∷◌, ◌++◌, sym
 use Rattle.std.specs.List.{AllByRecursion}
 use Rattle.gim_ast.specs.declared.function.Function.{Function}
 use Rattle.gim_ast.specs.Readable.{Use, IsReadableUse, IsValid, IsFirstUnreadable}
-use Rattle.gim_ast.proofs.DistinctLemmas.{rest_of, first_or}
+use Rattle.gim_ast.proofs.AssignedOnce.{rest_of, first_or}
 
 one_first : {X : Type 0} (P : X → Type 0) (xs ys us vs : List X) (x u : X) → AllByRecursion P xs → (P x → ⊥) → AllByRecursion P us → (P u → ⊥) → xs ++ x ∷ ys ≡ us ++ u ∷ vs → x ≡ u
 one_first P [] ys [] vs x u before not_x prior not_u e = ap (first_or x) e

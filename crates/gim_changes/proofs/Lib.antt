@@ -1,1 +1,3 @@
 pub mod FlowKept
+pub mod LoopLemmas
+pub mod Unused

@@ -1,5 +1,5 @@
 -- Removal of what is unused: the last phi or statement whose name nothing uses goes, until there is none.
-use Rattle.std.specs.Prelude.{ℕ, zero, suc, ◌==◌, not, Option, Some, None, List, [], ◌∷◌, length, filter, map}
+use Rattle.std.specs.Prelude.{ℕ, zero, suc, ◌==◌, Bool, not, Option, Some, None, List, [], ◌∷◌, length, filter, map}
 use Rattle.std.specs.Option.{option_map_or}
 use Rattle.gim_ast.specs.declared.function.Function.{Function}
 use Rattle.gim_ast.specs.declared.function.Block.{Block}
@@ -19,12 +19,16 @@ last_or found (x ∷ xs) = last_or (Some x) xs
 abbrev pub last_unused : Function → Option ℕ
 last_unused f = last_or None (unused f)
 
+-- a phi or a statement assigns another name
+abbrev pub phi_stays : ℕ → Phi → Bool
+phi_stays x phi = not (phi.name == x)
+
+abbrev pub stmt_stays : ℕ → Stmt → Bool
+stmt_stays x stmt = not (stmt.name == x)
+
 -- without the phis and statements of the name
 abbrev pub without_in_block : ℕ → Block → Block
-without_in_block x block = record block {
-  phis = filter (λ (phi : Phi). not (phi.name == x)) block.phis;
-  stmts = filter (λ (stmt : Stmt). not (stmt.name == x)) block.stmts;
-}
+without_in_block x block = record block { phis = filter (phi_stays x) block.phis; stmts = filter (stmt_stays x) block.stmts }
 
 unfoldable pub without : ℕ → Function → Function
 without x f = record f { blocks = map (without_in_block x) f.blocks }

@@ -14,9 +14,12 @@ abbrev pub is_empty_text : List ℕ → Bool
 is_empty_text [] = true
 is_empty_text (b ∷ bs) = false
 
--- only the rows of names that stand somewhere, and of anonymous ones, which are declared
+-- the row is kept: its name stands somewhere, or is an anonymous one, which is declared
+abbrev pub row_stays : Function → NameRow → Bool
+row_stays f row = stands_in f row.version || is_empty_text row.base
+
 unfoldable pub trimmed : Function → Function
-trimmed f = record f { names = filter (λ (row : NameRow). stands_in f row.version || is_empty_text row.base) f.names }
+trimmed f = record f { names = filter (row_stays f) f.names }
 
 -- what is unused is gone, and its rows of `names` with it
 abbrev pub tidied : Function → Function

@@ -5,3 +5,10 @@
 #![tactic(auto)]
 
 pub mod laws;
+mod removal;
+mod substitution;
+mod trimming;
+
+pub use removal::prune;
+pub use substitution::{put_in_all, set_condition, set_rhs};
+pub use trimming::{tidy, trim};
