@@ -222,7 +222,7 @@ pub(crate) fn bool_zero() -> Operand
 }
 
 /// The first subject in program order that has a choice.
-#[tactic(auto, unfolding(first_rewriting::specs::Rewriting::first_choice, first_patterns::specs::Subjects::subjects))]
+#[tactic(auto, unfolding(crate::specs::Rewriting::first_choice, first_patterns::specs::Subjects::subjects))]
 pub(crate) fn next(rows: &[Row], function: &Function) -> Option<Found>
     requires few { length rows.now < 2 ^ 32 }
     requires typed { EachFolds function.now (subjects function.now) }

@@ -1,3 +1,5 @@
 pub mod FlowKept
 pub mod LoopLemmas
+pub mod PlaceCounts
+pub mod TrimmedFirst
 pub mod Unused

@@ -1,6 +1,6 @@
 -- Where a function uses its names: each operand place that a name stands in, in program order.
-use Rattle.std.specs.Prelude.{ℕ, ◌+◌, List, [], ◌∷◌, ◌++◌, map}
-use Rattle.std.specs.List.{flat_map}
+use Rattle.std.specs.Prelude.{ℕ, ◌==◌, Bool, List, [], ◌∷◌, ◌++◌, map}
+use Rattle.std.specs.List.{flat_map, enumerate_from}
 use Rattle.pm_wide.specs.declared.operand.Operand.{Operand}
 use Rattle.pm_wide.specs.declared.operand.Operand.TheVariants.{Name, Const}
 use Rattle.gim_ast.specs.declared.function.Function.{Function}
@@ -15,11 +15,6 @@ pub record UsePlace : Type 0 where
   pub item : ℕ
   pub operand : ℕ
 
--- the elements with their numbers, from n on
-abbrev pub numbered : {X : Type 0} → ℕ → List X → List (ℕ × X)
-numbered n [] = []
-numbered n (x ∷ xs) = (n, x) ∷ numbered (n + 1) xs
-
 -- the operands of each item of a block: its phis, its statements and its end
 abbrev pub items_of : Block → List (List Operand)
 items_of block = map operands_of_phi block.phis ++ map operands_of_stmt block.stmts ++ operands_of_end block.end ∷ []
@@ -30,10 +25,14 @@ places_of_operand block item (at, Name x t) = record { name = x; block = block; 
 places_of_operand block item (at, Const w) = []
 
 abbrev pub places_in_item : ℕ → ℕ × List Operand → List UsePlace
-places_in_item block item = flat_map (places_of_operand block item.0) (numbered 0 item.1)
+places_in_item block item = flat_map (places_of_operand block item.0) (enumerate_from 0 item.1)
 
 abbrev pub places_in_block : ℕ × Block → List UsePlace
-places_in_block block = flat_map (places_in_item block.0) (numbered 1 (items_of block.1))
+places_in_block block = flat_map (places_in_item block.0) (enumerate_from 1 (items_of block.1))
 
 unfoldable pub use_places : Function → List UsePlace
-use_places f = flat_map places_in_block (numbered 0 f.blocks)
+use_places f = flat_map places_in_block (enumerate_from 0 f.blocks)
+
+-- the place is one of the name
+abbrev pub is_place_of : ℕ → UsePlace → Bool
+is_place_of x place = place.name == x

@@ -18,7 +18,7 @@ pub fn prune(function: &mut Function)
 }
 
 /// The last name in program order that is assigned and not used.
-#[tactic(auto, unfolding(gim_changes::specs::Removal::unused, gim_ast::specs::Functions::assigned))]
+#[tactic(auto, unfolding(crate::specs::Removal::unused, gim_ast::specs::Functions::assigned))]
 fn last_unused(function: &Function) -> Option<u32>
     ensures { result ≡ removal.last_unused function.now }
 {
@@ -65,7 +65,7 @@ fn last_unused_stmt(function: &Function, stmts: &[Stmt], found: Option<u32>) -> 
 }
 
 /// Removes the phis and statements of a name.
-#[tactic(auto, unfolding(gim_changes::specs::Removal::without))]
+#[tactic(auto, unfolding(crate::specs::Removal::without))]
 fn remove_name(function: &mut Function, name: u32)
     ensures { function.new ≡ removal.without name function.old }
 {

@@ -11,7 +11,7 @@ use pm_wide::Operand;
 use std::alloc::Global;
 
 /// Puts an operand for a name in every use.
-#[tactic(auto, unfolding(gim_changes::specs::Substitution::put_in_all))]
+#[tactic(auto, unfolding(crate::specs::Substitution::put_in_all))]
 pub fn put_in_all(function: &mut Function, name: u32, by: &Operand)
     ensures { function.new ≡ put.put_in_all name by.now function.old }
 {
@@ -140,7 +140,7 @@ fn is_name(operand: &Operand, name: u32) -> bool
 }
 
 /// Makes an operation on two operands the right side of each statement of the name.
-#[tactic(auto, unfolding(gim_changes::specs::Substitution::with_rhs))]
+#[tactic(auto, unfolding(crate::specs::Substitution::with_rhs))]
 pub fn set_rhs(
     alloc: Global,
     function: &mut Function,
@@ -217,7 +217,7 @@ fn set_rhs_in_stmt(
 }
 
 /// Makes a comparison the condition at the end of each block of the number.
-#[tactic(auto, unfolding(gim_changes::specs::Substitution::with_condition))]
+#[tactic(auto, unfolding(crate::specs::Substitution::with_condition))]
 pub fn set_condition(
     function: &mut Function,
     number: u32,

@@ -16,7 +16,7 @@ pub fn tidy(function: &mut Function)
 }
 
 /// Keeps only the rows of `names` whose names stand somewhere, and those of anonymous names.
-#[tactic(auto, unfolding(gim_changes::specs::Trimming::trimmed))]
+#[tactic(auto, unfolding(crate::specs::Trimming::trimmed))]
 pub fn trim(function: &mut Function)
     ensures { function.new ≡ trimming.trimmed function.old }
 {

@@ -1,2 +1,2 @@
-pub mod Rows
-pub mod Signs
+pub mod RowSearch
+pub mod SignedNumbers

@@ -25,7 +25,7 @@ use std::alloc::Global;
 /// The text of the functions in order, with an empty line between two.
 ///
 /// The rows of each function's `names` rise by version, so that names are found by binary search.
-#[tactic(auto, unfolding(gim_printer::specs::Printing::text))]
+#[tactic(auto, unfolding(crate::specs::Printing::text))]
 pub fn print(alloc: Global, functions: &[Function]) -> Result<Vec<u8>, OutOfMemory>
     requires { All (λ f. IsTrue (names_rise f)) functions.now }
     ensures { IfOk result (λ bytes. bytes.items ≡ text functions.now) }

@@ -5,20 +5,12 @@ use Rattle.std.specs.List.{list_all}
 use Rattle.std.specs.List.Sorted.{IsBinarySearchResult, IsSearchInRange, IsNonDecreasingBy, IsPartitionPoint}
 use Rattle.std.specs.Ordering.{nat_cmp, ordering_index}
 use Rattle.std.proofs.Math.Nat.{eq-or-lt_of_le}
-use Rattle.std.proofs.lemmas.Bool.{cases_lt}
+use Rattle.std.proofs.lemmas.Bool.{cases_lt, and_parts}
 use Rattle.std.proofs.lemmas.Grind.{common_steps}
 use Rattle.gim_ast.specs.declared.function.Function.{Function}
 use Rattle.gim_ast.specs.declared.function.NameRow.{NameRow}
 use Rattle.gim_ast.specs.Functions.{first_where, row_of}
 use Rattle.gim_ast.specs.WellFormed.{rises, names_rise}
-
-pub and_left : (a b : Bool) → (a && b) ≡ true → a ≡ true
-and_left true b e = refl
-and_left false b e = cc
-
-and_right : (a b : Bool) → (a && b) ≡ true → b ≡ true
-and_right true b e = e
-and_right false b e = cc
 
 -- ---- what the answer of a comparison says
 
@@ -45,14 +37,14 @@ of_version x row = row.version == x
 -- the versions of all rows lie above x
 above : (x : ℕ) (rows : List NameRow) (i : ℕ) (d : NameRow) → IsTrue (list_all (nat_lt x) (map version_of rows)) → i < length rows → x < version_of (get_or rows i d)
 above x [] i d all within = absurd (omega arith)
-above x (row ∷ rows) zero d all within = let first : nat_lt x row.version ≡ true = and_left _ _ all in grind (arith, common_steps)
-above x (row ∷ rows) (suc i) d all within = above x rows i d (and_right _ _ all) (omega arith)
+above x (row ∷ rows) zero d all within = let first : nat_lt x row.version ≡ true = (and_parts _ _ all).0 in grind (arith, common_steps)
+above x (row ∷ rows) (suc i) d all within = above x rows i d ((and_parts _ _ all).1) (omega arith)
 
 rises_strictly : (rows : List NameRow) (i j : ℕ) (d : NameRow) → IsTrue (rises (map version_of rows)) → i < j → j < length rows → version_of (get_or rows i d) < version_of (get_or rows j d)
 rises_strictly [] i j d rise lower within = absurd (omega arith)
 rises_strictly (row ∷ rows) i zero d rise lower within = absurd (omega arith)
-rises_strictly (row ∷ rows) zero (suc j) d rise lower within = above row.version rows j d (and_left _ _ rise) (omega arith)
-rises_strictly (row ∷ rows) (suc i) (suc j) d rise lower within = rises_strictly rows i j d (and_right _ _ rise) (omega arith) (omega arith)
+rises_strictly (row ∷ rows) zero (suc j) d rise lower within = above row.version rows j d ((and_parts _ _ rise).0) (omega arith)
+rises_strictly (row ∷ rows) (suc i) (suc j) d rise lower within = rises_strictly rows i j d ((and_parts _ _ rise).1) (omega arith) (omega arith)
 
 never_falls : (rows : List NameRow) (i j : ℕ) (d : NameRow) → IsTrue (rises (map version_of rows)) → i ≤ j → j < length rows → version_of (get_or rows i d) ≤ version_of (get_or rows j d)
 never_falls rows i j d rise lower within = elim (eq-or-lt_of_le lower) [ inl same ↦ rw same (omega arith) | inr strictly ↦ omega (arith, rises_strictly rows i j d rise strictly within) ]
@@ -66,9 +58,9 @@ first_found : (rows : List NameRow) (x i : ℕ) (found : NameRow) → IsTrue (ri
 first_found [] x i found rise within at is = absurd (omega arith)
 first_found (row ∷ rows) x zero found rise within at is = let same : row.version ≡ x = cc in grind (arith, common_steps)
 first_found (row ∷ rows) x (suc i) found rise within at is =
-    let lower : row.version < version_of (get_or rows i found) = above row.version rows i found (and_left _ _ rise) (omega arith) in
+    let lower : row.version < version_of (get_or rows i found) = above row.version rows i found ((and_parts _ _ rise).0) (omega arith) in
     let here : version_of (get_or rows i found) ≡ x = cc in
-    let rest : first_where (of_version x) rows ≡ Some found = first_found rows x i found (and_right (list_all (nat_lt row.version) (map version_of rows)) (rises (map version_of rows)) rise) (omega arith) at is in
+    let rest : first_where (of_version x) rows ≡ Some found = first_found rows x i found ((and_parts (list_all (nat_lt row.version) (map version_of rows)) (rises (map version_of rows)) rise).1) (omega arith) at is in
     grind (arith, common_steps)
 
 -- where no row has the version, none is found
