@@ -10,6 +10,7 @@ use Rattle.gim_ast.specs.declared.function.End.{End}
 use Rattle.gim_ast.specs.declared.function.End.TheVariants.{Goto, If, Return}
 use Rattle.gim_ast.specs.Functions.{phi_name, stmt_name, assigned_in, targets_of}
 use Rattle.gim_changes.specs.Substitution.{put_in_phi, put_in_stmt, put_in_end, put_in_block, put_in_all, with_rhs_in_stmt, with_rhs, with_condition_in_end, with_condition}
+use Rattle.gim_changes.specs.Trimming.{trimmed}
 use Rattle.gim_ast.specs.Paths.{Stretch, stretch_of, flow_of}
 
 -- a change of elements that what is seen of them doesn't show
@@ -56,3 +57,7 @@ condition_stretch n code a b block =
 pub condition_in_flow : (n : ℕ) (code : Code) (a b : Operand) (f : Function) → flow_of (with_condition n code a b f) ≡ flow_of f
 unfolding with_condition
 condition_in_flow n code a b f = unseen stretch_of _ (condition_stretch n code a b) f.blocks
+
+pub trimmed_in_flow : (f : Function) → flow_of (trimmed f) ≡ flow_of f
+unfolding trimmed
+trimmed_in_flow f = refl

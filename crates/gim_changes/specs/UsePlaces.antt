@@ -6,6 +6,7 @@ use Rattle.pm_wide.specs.declared.operand.Operand.TheVariants.{Name, Const}
 use Rattle.gim_ast.specs.declared.function.Function.{Function}
 use Rattle.gim_ast.specs.declared.function.Block.{Block}
 use Rattle.gim_ast.specs.Functions.{operands_of_phi, operands_of_stmt, operands_of_end}
+use Rattle.gim_ast.specs.Readable.{Use}
 
 -- the name, the place of the block among the blocks from 0, the phi, statement or end of the block from 1, and the
 -- position among the operands of that item from 0
@@ -36,3 +37,10 @@ use_places f = flat_map places_in_block (enumerate_from 0 f.blocks)
 -- the place is one of the name
 abbrev pub is_place_of : ℕ → UsePlace → Bool
 is_place_of x place = place.name == x
+
+-- what a place tells of the item and the name, and what the check for readability tells of them at a use
+abbrev pub item_and_name : UsePlace → ℕ × ℕ
+item_and_name place = (place.item, place.name)
+
+abbrev pub item_and_name_read : Use → ℕ × ℕ
+item_and_name_read place = (place.item, place.name)

@@ -27,6 +27,7 @@ pub fn trim(function: &mut Function)
     }
 }
 
+/// Removes the row at a place.
 fn remove_row(rows: &mut Items<NameRow>, at: usize)
     requires { at < length rows.old }
     ensures { rows.new ≡ remove rows.old at }
