@@ -18,16 +18,6 @@ use Rattle.first_rewriting.specs.Choices.{first_found, tried, by_site, stmt_subj
 
 -- ---- rows
 
-pub row_skipped : (rhs : Rhs) (rows : List Row) (i : ℕ) (row : Row) → i < length rows → row ≡ get_or rows i row → result_of row rhs ≡ None → found_from i (drop i rows) rhs ≡ found_from (i + 1) (drop (i + 1) rows) rhs
-row_skipped rhs rows i row within is none =
-    let next : i + 1 ≡ suc i = omega arith in
-    at_drop_more (λ rest. found_from i rest rhs) rows i row within ∙ (ap (λ r. found_from i (r ∷ drop (i + 1) rows) rhs) (sym is) ∙ rw none (ap (λ n. found_from n (drop (i + 1) rows) rhs) (sym next)))
-
-pub row_taken : (rhs : Rhs) (rows : List Row) (i : ℕ) (row : Row) (a : Operand) → i < length rows → row ≡ get_or rows i row → result_of row rhs ≡ Some a → found_from i (drop i rows) rhs ≡ Some (i + 1, a)
-row_taken rhs rows i row a within is some =
-    let next : i + 1 ≡ suc i = omega arith in
-    at_drop_more (λ rest. found_from i rest rhs) rows i row within ∙ (ap (λ r. found_from i (r ∷ drop (i + 1) rows) rhs) (sym is) ∙ rw some (ap (λ n. Some (n, a)) (sym next)))
-
 -- ---- subjects
 
 pub found_append : (rows : List Row) (f : Function) (xs ys : List Subject) → first_found rows f (xs ++ ys) ≡ or_else (first_found rows f xs) (first_found rows f ys)

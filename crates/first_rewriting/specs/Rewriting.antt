@@ -84,11 +84,6 @@ changed (AtStmt x) (AsExchanged code a b) f = with_rhs x (Op code (a ∷ b ∷ [
 changed (AtCond n) (AsOperand a) f = with_condition n Ne a bool_zero f
 changed (AtCond n) (AsExchanged code a b) f = with_condition n code a b f
 
--- the condition that a result makes, as a right side
-abbrev pub condition_of : Result → Rhs
-condition_of (AsOperand a) = Op Ne (a ∷ bool_zero ∷ [])
-condition_of (AsExchanged code a b) = Op code (a ∷ b ∷ [])
-
 abbrev pub is_ne : Code → Bool
 is_ne Ne = true
 is_ne _ = false

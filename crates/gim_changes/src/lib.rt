@@ -12,3 +12,6 @@ mod trimming;
 pub use removal::prune;
 pub use substitution::{put_in_all, set_condition, set_rhs};
 pub use trimming::{tidy, trim};
+
+#[cfg(test)]
+mod tests;
