@@ -20,10 +20,6 @@ put_behind : (front : List NameRow) (row : NameRow) (read : Option (List NameRow
 put_behind front row None = refl
 put_behind front row (Some rows) = ap Some (simp append_assoc)
 
-pub merge_begins : (read : Option (List NameRow)) → behind [] read ≡ read
-merge_begins None = refl
-merge_begins (Some rows) = refl
-
 pub merge_ends : (front rows : List NameRow) (at : ℕ) → length rows ≤ at → behind front (merged (drop at rows)) ≡ Some front
 unfolding merged
 merge_ends front [] zero le = ap Some (append-nil front)

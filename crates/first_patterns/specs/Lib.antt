@@ -1,3 +1,4 @@
 pub mod FirstForm
 pub mod Matching
 pub mod Reading
+pub mod Subjects

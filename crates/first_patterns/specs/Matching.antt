@@ -5,7 +5,7 @@ use Rattle.pm_wide.specs.declared.operand.Operand.{Operand}
 use Rattle.gim_ast.specs.declared.function.Rhs.{Rhs}
 use Rattle.gim_ast.specs.declared.function.Rhs.TheVariants.{Copy, Op}
 use Rattle.gim_ast.specs.Functions.{same_operand}
-use Rattle.gim_ast.specs.Subjects.{Subject, View}
+use Rattle.first_patterns.specs.Subjects.{Subject, View}
 use Rattle.first_patterns.specs.declared.row.Row.{Row}
 use Rattle.first_patterns.specs.declared.row.Side.{Side}
 use Rattle.first_patterns.specs.declared.row.Side.TheVariants.{Left, Right}

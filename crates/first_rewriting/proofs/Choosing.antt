@@ -8,25 +8,15 @@ use Rattle.gim_ast.specs.declared.function.Function.{Function}
 use Rattle.gim_ast.specs.declared.function.Block.{Block}
 use Rattle.gim_ast.specs.declared.function.Stmt.{Stmt}
 use Rattle.gim_ast.specs.declared.function.Rhs.{Rhs}
-use Rattle.gim_ast.specs.Subjects as subjects
-use Rattle.gim_ast.specs.Subjects.{Subject, subject_of_stmt, subjects_of_end, subjects_of_block}
-use Rattle.gim_ast.specs.Rewriting as rewriting
-use Rattle.gim_ast.specs.Rewriting.{or_else, first_some}
+use Rattle.first_patterns.specs.Subjects as subjects
+use Rattle.first_patterns.specs.Subjects.{Subject, subject_of_stmt, subjects_of_end, subjects_of_block}
+use Rattle.first_rewriting.specs.Rewriting as rewriting
+use Rattle.first_rewriting.specs.Rewriting.{or_else, first_some}
 use Rattle.first_patterns.specs.declared.row.Row.{Row}
 use Rattle.first_patterns.specs.Matching.{result_of, found_from}
 use Rattle.first_rewriting.specs.Choices.{first_found, tried, by_site, stmt_subjects, EachFolds}
 
 -- ---- rows
-
-pub row_skipped : (rhs : Rhs) (rows : List Row) (i : ℕ) (row : Row) → i < length rows → row ≡ get_or rows i row → result_of row rhs ≡ None → found_from i (drop i rows) rhs ≡ found_from (i + 1) (drop (i + 1) rows) rhs
-row_skipped rhs rows i row within is none =
-    let next : i + 1 ≡ suc i = omega arith in
-    at_drop_more (λ rest. found_from i rest rhs) rows i row within ∙ (ap (λ r. found_from i (r ∷ drop (i + 1) rows) rhs) (sym is) ∙ rw none (ap (λ n. found_from n (drop (i + 1) rows) rhs) (sym next)))
-
-pub row_taken : (rhs : Rhs) (rows : List Row) (i : ℕ) (row : Row) (a : Operand) → i < length rows → row ≡ get_or rows i row → result_of row rhs ≡ Some a → found_from i (drop i rows) rhs ≡ Some (i + 1, a)
-row_taken rhs rows i row a within is some =
-    let next : i + 1 ≡ suc i = omega arith in
-    at_drop_more (λ rest. found_from i rest rhs) rows i row within ∙ (ap (λ r. found_from i (r ∷ drop (i + 1) rows) rhs) (sym is) ∙ rw some (ap (λ n. Some (n, a)) (sym next)))
 
 -- ---- subjects
 

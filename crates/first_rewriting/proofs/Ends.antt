@@ -5,8 +5,8 @@ use Rattle.std.specs.Option.{option_map}
 use Rattle.pm_wide.specs.declared.operand.Operand.{Operand}
 use Rattle.gim_ast.specs.declared.function.Function.{Function}
 use Rattle.gim_ast.specs.declared.function.Rhs.{Rhs}
-use Rattle.gim_ast.specs.Subjects.{Subject, View, subjects, view_of}
-use Rattle.gim_ast.specs.Rewriting.{Choice, Firing, or_else, first_some, choice_at, first_choice, stepped, firing_of, with_firing, rewritten_by}
+use Rattle.first_patterns.specs.Subjects.{Subject, View, subjects, view_of}
+use Rattle.first_rewriting.specs.Rewriting.{Choice, Firing, or_else, first_some, choice_at, first_choice, stepped, firing_of, with_firing, rewritten_by}
 use Rattle.first_patterns.specs.declared.row.Row.{Row}
 use Rattle.first_patterns.specs.Matching.{result_of, found_from}
 use Rattle.first_rewriting.specs.Reaches.{Reaches, Done, Spent, Step}

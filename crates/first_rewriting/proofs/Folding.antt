@@ -6,7 +6,7 @@ use Rattle.pm_wide.specs.Types.{Ty}
 use Rattle.pm_wide.specs.Operations.{operation_value}
 use Rattle.pm_wide.specs.declared.operand.Operand.{Operand}
 use Rattle.pm_wide.specs.declared.operand.Operand.TheVariants.{Name, Const}
-use Rattle.gim_ast.specs.Rewriting.{words_of}
+use Rattle.first_rewriting.specs.Rewriting.{words_of}
 
 four_or_more : (code : Code) (t : Ty) (a b c d : Operand) (rest : List Operand) → option_and_then (operation_value code t) (words_of (a ∷ b ∷ c ∷ d ∷ rest)) ≡ None
 unfolding operation_value

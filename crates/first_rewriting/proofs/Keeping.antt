@@ -20,9 +20,9 @@ use Rattle.gim_ast.specs.declared.function.Rhs.TheVariants.{Copy, Op}
 use Rattle.gim_ast.specs.declared.function.End.{End}
 use Rattle.gim_ast.specs.declared.function.End.TheVariants.{Goto, If, Return}
 use Rattle.gim_ast.specs.Functions.{row_of, first_where, same_operand}
-use Rattle.gim_ast.specs.Subjects.{Site, AtStmt, AtCond, Subject, view_of, type_at, subject_of_stmt, subjects_of_end, subjects_of_block, subjects}
-use Rattle.gim_ast.specs.Rewriting.{Result, AsOperand, AsExchanged, Choice, IsCopy, IsSwap, IsFold, IsRow, or_else, first_some, swap_operands, fold_at, words_of, first_kind, choice_at, is_condition, gives_same_condition, bool_zero, changed, first_choice}
-use Rattle.gim_ast.specs.Removal.{tidied}
+use Rattle.first_patterns.specs.Subjects.{Site, AtStmt, AtCond, Subject, view_of, type_at, subject_of_stmt, subjects_of_end, subjects_of_block, subjects}
+use Rattle.first_rewriting.specs.Rewriting.{Result, AsOperand, AsExchanged, Choice, IsCopy, IsSwap, IsFold, IsRow, or_else, first_some, swap_operands, fold_at, words_of, first_kind, choice_at, is_condition, gives_same_condition, bool_zero, changed, first_choice}
+use Rattle.gim_changes.specs.Trimming.{tidied}
 use Rattle.gim_ast.specs.WellFormed.{type_of}
 use Rattle.first_patterns.specs.declared.row.Row.{Row}
 use Rattle.first_patterns.specs.declared.row.Side.{Side}

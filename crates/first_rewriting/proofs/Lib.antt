@@ -2,8 +2,6 @@ pub mod Keeping
 pub mod Lists
 pub mod Stepping
 pub mod Typings
-pub mod Unused
-pub mod Uses
 pub mod ValueTypes
 pub mod Choosing
 pub mod Ends

@@ -4,11 +4,11 @@ use Rattle.std.specs.Prelude.{is_some}
 use Rattle.std.specs.Option.{option_map}
 use Rattle.std.proofs.lemmas.List.{map-append}
 use Rattle.gim_ast.specs.declared.function.Function.{Function}
-use Rattle.gim_ast.specs.Removal.{tidied}
-use Rattle.gim_ast.specs.Subjects as subjects
-use Rattle.gim_ast.specs.Subjects.{Subject}
-use Rattle.gim_ast.specs.Rewriting as rewriting
-use Rattle.gim_ast.specs.Rewriting.{Rewritten, base_at, changed, first_choice, rewritten_by, rewriting_of}
+use Rattle.gim_changes.specs.Trimming.{tidied}
+use Rattle.first_patterns.specs.Subjects as subjects
+use Rattle.first_patterns.specs.Subjects.{Subject}
+use Rattle.first_rewriting.specs.Rewriting as rewriting
+use Rattle.first_rewriting.specs.Rewriting.{Rewritten, base_at, changed, first_choice, rewritten_by, rewriting_of}
 use Rattle.first_patterns.specs.declared.row.Row.{Row}
 use Rattle.first_patterns.specs.Matching.{row_at}
 use Rattle.first_rewriting.specs.Choices.{by_site, EachFolds}

@@ -18,10 +18,10 @@ use Rattle.gim_ast.specs.declared.function.Rhs.TheVariants.{Copy, Op}
 use Rattle.gim_ast.specs.declared.function.End.{End}
 use Rattle.gim_ast.specs.declared.function.End.TheVariants.{Goto, If, Return}
 use Rattle.gim_ast.specs.Functions.{is_name, operands_of_rhs, assigned}
-use Rattle.gim_ast.specs.Substitution.{put, put_in_rhs, put_in_end, put_in_phi, put_in_stmt, put_in_block, put_in_all, with_rhs_in_stmt, with_rhs, with_condition_in_end, with_condition}
-use Rattle.gim_ast.specs.Removal.{without_in_block, without, last_unused, pruned_by, pruned, trimmed, tidied, stands_in, is_empty_text}
+use Rattle.gim_changes.specs.Substitution.{put, put_in_rhs, put_in_end, put_in_phi, put_in_stmt, put_in_block, put_in_all, with_rhs_in_stmt, with_rhs_in_block, with_rhs, with_condition_in_end, with_condition_in_block, with_condition}
+use Rattle.gim_changes.specs.Removal.{without_in_block, without, last_unused, pruned_by, pruned}
+use Rattle.gim_changes.specs.Trimming.{trimmed, tidied, stands_in, is_empty_text}
 use Rattle.gim_ast.specs.WellFormed.{type_of, rhs_fits}
-use Rattle.first_rewriting.specs.Blocks.{with_rhs_in_block, with_condition_in_block}
 use Rattle.first_rewriting.specs.Typed.{operand_agrees, phi_agrees, stmt_agrees, end_agrees, block_agrees, row_agrees}
 
 -- ---- tests

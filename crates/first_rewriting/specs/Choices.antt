@@ -5,14 +5,14 @@ use Rattle.pm_wide.specs.Types.{Ty}
 use Rattle.pm_wide.specs.declared.operand.Operand.{Operand}
 use Rattle.gim_ast.specs.declared.function.Stmt.{Stmt}
 use Rattle.gim_ast.specs.declared.function.Rhs.{Rhs}
-use Rattle.gim_ast.specs.Subjects as subjects
+use Rattle.first_patterns.specs.Subjects as subjects
 use Rattle.gim_ast.specs.declared.function.Rhs.TheVariants.{Copy, Op}
 use Rattle.gim_ast.specs.declared.function.Function.{Function}
-use Rattle.gim_ast.specs.Subjects.{Subject, subject_of_stmt, view_of, type_at}
+use Rattle.first_patterns.specs.Subjects.{Subject, subject_of_stmt, view_of, type_at}
 use Rattle.gim_ast.specs.WellFormed.{type_of}
 use Rattle.pm_wide.specs.Typing.{well_typed_operation}
-use Rattle.gim_ast.specs.Rewriting as rewriting
-use Rattle.gim_ast.specs.Rewriting.{or_else, copy_at, swap_at, fold_at, choice_at, first_some, IsRow, AsOperand, AsExchanged}
+use Rattle.first_rewriting.specs.Rewriting as rewriting
+use Rattle.first_rewriting.specs.Rewriting.{or_else, copy_at, swap_at, fold_at, choice_at, first_some, IsRow, AsOperand, AsExchanged}
 use Rattle.first_patterns.specs.declared.row.Row.{Row}
 use Rattle.first_patterns.specs.Matching.{found_from, row_at}
 use Rattle.first_rewriting.specs.Views.{site_of, what_of}

@@ -3,8 +3,8 @@
 use Rattle.std.specs.Prelude.{◌≡◌, ℕ, suc, Bool, true, false, Option, Some, None, List, [], ◌∷◌}
 use Rattle.pm_wide.specs.declared.operand.Operand.{Operand}
 use Rattle.gim_ast.specs.declared.function.Function.{Function}
-use Rattle.gim_ast.specs.Subjects.{Subject, View}
-use Rattle.gim_ast.specs.Rewriting.{Choice, Firing, first_choice, stepped, firing_of}
+use Rattle.first_patterns.specs.Subjects.{Subject, View}
+use Rattle.first_rewriting.specs.Rewriting.{Choice, Firing, first_choice, stepped, firing_of}
 
 pub data Reaches (row_at : View → Subject → Option (ℕ × Operand)) : ℕ → Function → Function → List Firing → Bool → Type 0 where
   Done : (left : ℕ) (f : Function) → first_choice row_at f ≡ None → Reaches row_at left f f [] false

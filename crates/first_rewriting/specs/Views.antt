@@ -1,7 +1,7 @@
 -- What the crate's own types stand for in the definition of the rewriting.
 use Rattle.std.specs.Prelude.{map}
-use Rattle.gim_ast.specs.Subjects as subjects
-use Rattle.gim_ast.specs.Rewriting as rewriting
+use Rattle.first_patterns.specs.Subjects as subjects
+use Rattle.first_rewriting.specs.Rewriting as rewriting
 use Rattle.first_rewriting.specs.declared.firing.Site.{Site}
 use Rattle.first_rewriting.specs.declared.firing.Site.TheVariants.{Stmt, Cond}
 use Rattle.first_rewriting.specs.declared.firing.What.{What}

@@ -5,8 +5,8 @@ ghost use Rattle.std.specs.Option.{option_and_then, option_map, ForSome};
 ghost use Rattle.pm_wide.specs.Typing.{well_typed_operation};
 ghost use Rattle.pm_wide.specs.Operations.{operation_value};
 ghost use Rattle.gim_ast.specs.declared.function.Rhs.TheVariants.{Op};
-ghost use Rattle.gim_ast.specs.Subjects.{subjects, subjects_of_end, subjects_of_block};
-ghost use Rattle.gim_ast.specs.Rewriting.{bool_zero as zero_operand, words_of, swap_at, fold_at, first_choice, gives_same_condition};
+ghost use Rattle.first_patterns.specs.Subjects.{subjects, subjects_of_end, subjects_of_block};
+ghost use Rattle.first_rewriting.specs.Rewriting.{bool_zero as zero_operand, words_of, swap_at, fold_at, first_choice, gives_same_condition};
 ghost use Rattle.gim_ast.specs.WellFormed.{type_of};
 ghost use Rattle.first_patterns.specs.Matching.{row_at};
 ghost use Rattle.first_rewriting.specs.Choices.{EachFolds, choice_of, found_of, by_site, first_found, kind_at, result_of, row_kind, stmt_subjects};
@@ -222,7 +222,7 @@ pub(crate) fn bool_zero() -> Operand
 }
 
 /// The first subject in program order that has a choice.
-#[tactic(auto, unfolding(gim_ast::specs::Rewriting::first_choice, gim_ast::specs::Subjects::subjects))]
+#[tactic(auto, unfolding(crate::specs::Rewriting::first_choice, first_patterns::specs::Subjects::subjects))]
 pub(crate) fn next(rows: &[Row], function: &Function) -> Option<Found>
     requires few { length rows.now < 2 ^ 32 }
     requires typed { EachFolds function.now (subjects function.now) }

@@ -3,20 +3,15 @@ ghost use Rattle.std.specs.Prelude.{◌≡◌, ◌≤◌, ℕ, Bool, true, false
 ghost use Rattle.pm_wide.specs.declared.operand.Operand.{Operand};
 ghost use Rattle.gim_ast.specs.declared.function.Function.{Function};
 ghost use Rattle.gim_ast.specs.declared.function.Rhs.{Rhs};
-ghost use Rattle.gim_ast.specs.Removal.{last_unused, pruned, tidied};
-ghost use Rattle.gim_ast.specs.Subjects.{Subject, View, subjects, view_of};
-ghost use Rattle.gim_ast.specs.Rewriting.{Choice, Firing, choice_at, first_choice, rewriting_of, stepped};
+ghost use Rattle.gim_changes.specs.Trimming.{tidied};
+ghost use Rattle.first_patterns.specs.Subjects.{Subject, View, subjects, view_of};
+ghost use Rattle.first_rewriting.specs.Rewriting.{Choice, Firing, choice_at, first_choice, rewriting_of, stepped};
 ghost use Rattle.gim_ast.specs.WellFormed.{IsWellFormed};
 ghost use Rattle.first_patterns.specs.declared.row.Row.{Row};
 ghost use Rattle.first_patterns.specs.Matching.{result_of, row_at};
 ghost use Rattle.first_rewriting.specs.Reaches.{Reaches};
 ghost use Rattle.first_rewriting.specs.Rows.{AppliesFirst};
 ghost use Rattle.first_rewriting.specs.Typed.{IsTyped, KeepTypes};
-
-/// After the removal nothing unused is left.
-pub fn nothing_unused_is_left()
-    ensures { (f : Function) → last_unused (pruned f) ≡ None }
-{}
 
 /// The chosen row applies, and no row before it does; where none is chosen, none applies.
 pub fn chosen_row_is_the_first()

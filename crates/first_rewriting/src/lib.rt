@@ -9,10 +9,8 @@ mod firing;
 pub mod laws;
 mod lookup;
 mod matching;
-mod removal;
 mod rewriting;
 mod step;
-mod substitution;
 
 pub use firing::{Firing, Site, What};
 pub use rewriting::{Simplified, simplify};

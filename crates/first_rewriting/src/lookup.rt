@@ -3,7 +3,7 @@ ghost use Rattle.std.specs.Prelude.{◌≡◌, find};
 ghost use Rattle.std.specs.Option.{option_copied, option_map};
 ghost use Rattle.gim_ast.specs.declared.function.NameRow.{NameRow};
 ghost use Rattle.gim_ast.specs.Functions.{row_of};
-ghost use Rattle.first_rewriting.specs.Blocks.{row_is};
+ghost use Rattle.first_rewriting.specs.Rows.{row_is};
 
 use gim_ast::{Function, NameRow};
 use pm_wide::IntType;

@@ -1,16 +1,16 @@
 //! The rewriting of a function.
 ghost use Rattle.std.specs.Prelude.{◌≡◌, ◌<◌, ◌^◌, length, IfOk};
-ghost use Rattle.gim_ast.specs.Rewriting.{rewriting_of};
+ghost use Rattle.first_rewriting.specs.Rewriting.{rewriting_of};
 ghost use Rattle.first_patterns.specs.Matching.{row_at};
 ghost use Rattle.first_rewriting.specs.Typed.{IsTyped, KeepTypes};
 ghost use Rattle.first_rewriting.specs.Views.{rewritten};
 
 use crate::choice::next;
 use crate::firing::Firing;
-use crate::removal::tidy;
 use crate::step::{carry_out, firing_at};
 use first_patterns::Row;
 use gim_ast::Function;
+use gim_changes::tidy;
 use pm_items::Items;
 use pm_ops::OutOfMemory;
 use std::alloc::Global;

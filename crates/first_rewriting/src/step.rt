@@ -1,16 +1,15 @@
 //! A step: what it tells, and carrying a choice out.
 ghost use Rattle.std.specs.Prelude.{◌≡◌, [], IfOk};
-ghost use Rattle.gim_ast.specs.Removal.{tidied};
-ghost use Rattle.gim_ast.specs.Rewriting.{changed, base_at};
+ghost use Rattle.gim_changes.specs.Trimming.{tidied};
+ghost use Rattle.first_rewriting.specs.Rewriting.{changed, base_at};
 ghost use Rattle.first_rewriting.specs.Views.{site_of};
 ghost use Rattle.first_rewriting.specs.Choices.{result_of};
 
 use crate::choice::{Found, Outcome, bool_zero};
 use crate::firing::{Firing, Site};
 use crate::lookup::name_row;
-use crate::removal::tidy;
-use crate::substitution::{put_in_all, set_condition, set_rhs};
 use gim_ast::Function;
+use gim_changes::{put_in_all, set_condition, set_rhs, tidy};
 use pm_ops::{Code, OutOfMemory, Text};
 use std::alloc::Global;
 

@@ -10,8 +10,8 @@ use Rattle.gim_ast.specs.declared.function.End.{End}
 use Rattle.gim_ast.specs.declared.function.End.TheVariants.{Goto, If, Return}
 use Rattle.gim_ast.specs.Functions.{targets_of}
 use Rattle.gim_ast.specs.WellFormed.{all_distinct, is_empty, numbers_of, predecessors, is_among, phi_blocks, phi_holds, entry_has_no_phi, blocks_hold}
-use Rattle.gim_ast.specs.Parts.{has_number, distinct_numbers, stays_in, jumps_stay_in, leads_to, is_way, comes_from, distinct_args, arg_has_way, way_has_arg, phi_by_part, phis_by_part, blocks_by_part}
-use Rattle.gim_ast.proofs.Parts.{and_cong, any_cong, all_cong, any_map, all_map, any_flat_map, all_flat_map, any_turned}
+use Rattle.gim_ast.specs.RulesByPart.{has_number, distinct_numbers, stays_in, jumps_stay_in, leads_to, is_way, comes_from, distinct_args, arg_has_way, way_has_arg, phi_by_part, phis_by_part, blocks_by_part}
+use Rattle.gim_ast.proofs.ListTests.{and_cong, any_cong, all_cong, any_map, all_map, any_flat_map, all_flat_map, any_turned}
 
 abbrev number_of : Block → ℕ
 number_of block = block.number

@@ -11,7 +11,7 @@ use Rattle.gim_ast.specs.declared.function.Phi.{Phi}
 use Rattle.gim_ast.specs.declared.function.Stmt.{Stmt}
 use Rattle.gim_ast.specs.Functions.{operands_of, operands_of_phi, operands_of_stmt, operands_of_end, operands_of_block}
 use Rattle.gim_ast.specs.WellFormed.{bounds_hold}
-use Rattle.gim_ast.specs.Parts.{capped_sum, count_in_phis, count_in_stmts, count_in_block, count_in_blocks, bounds_by_part}
+use Rattle.gim_ast.specs.RulesByPart.{capped_sum, count_in_phis, count_in_stmts, count_in_block, count_in_blocks, bounds_by_part}
 
 nothing : (n : ℕ) → n ≤ 2 ^ 64 - 1 → n ≡ capped_sum n 0
 nothing n h = omega arith

@@ -7,8 +7,8 @@ use Rattle.gim_ast.specs.declared.function.Function.{Function}
 use Rattle.gim_ast.specs.declared.function.Decl.{Decl}
 use Rattle.gim_ast.specs.Identifiers.{is_identifier, is_anonymous}
 use Rattle.gim_ast.specs.WellFormed.{same_text, all_distinct, ident_of, is_type_of, declarations_hold, types_hold}
-use Rattle.gim_ast.specs.Parts.{has_identifier, has_anonymous, has_ident, distinct_idents, declarations_by_part, has_type, types_by_part}
-use Rattle.gim_ast.proofs.Parts.{neither, any_map, all_map}
+use Rattle.gim_ast.specs.RulesByPart.{has_identifier, has_anonymous, has_ident, distinct_idents, declarations_by_part, has_type, types_by_part}
+use Rattle.gim_ast.proofs.ListTests.{neither, any_map, all_map}
 
 any_ident : (ident : List ℕ) (ps ds : List Decl) → list_any (same_text ident) (map ident_of (ps ++ ds)) ≡ (list_any (has_ident ident) ps || list_any (has_ident ident) ds)
 any_ident ident ps ds = any_map (same_text ident) ident_of (ps ++ ds) ∙ list_any-append (has_ident ident) ps ds

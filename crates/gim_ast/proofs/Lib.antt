@@ -1,14 +1,15 @@
+mod AssignedOnce
 mod BlockParts
 mod BoundParts
 mod DeclarationParts
-pub mod DistinctLemmas
-pub mod FlowLemmas
+pub mod FirstUnreadable
 pub mod FuelLemmas
-mod NameParts
+mod ListTests
+pub mod NameParts
 pub mod NumberLemmas
 mod OperandParts
-mod Parts
 pub mod ReadableLemmas
-mod Search
-pub mod SupportLemmas
-mod Whole
+pub mod RisingNames
+mod RowSearch
+mod SupportLemmas
+mod WellFormedTest

@@ -10,11 +10,10 @@ use Rattle.gim_ast.specs.declared.function.Block.{Block}
 use Rattle.gim_ast.specs.declared.function.Phi.{Phi}
 use Rattle.gim_ast.specs.declared.function.Stmt.{Stmt}
 use Rattle.gim_ast.specs.declared.function.NameRow.{NameRow}
-use Rattle.gim_ast.specs.Functions.{is_name, operands_of, operands_of_phi, operands_of_stmt, operands_of_end, operands_of_block, assigned, assigned_in, phi_name, stmt_name}
-use Rattle.gim_ast.specs.Removal.{is_used}
+use Rattle.gim_ast.specs.Functions.{is_name, operands_of, operands_of_phi, operands_of_stmt, operands_of_end, operands_of_block, assigned, assigned_in, phi_name, stmt_name, is_used}
 use Rattle.gim_ast.specs.WellFormed.{same_text, all_distinct, rises, base_holds, is_assigned, row_stands, initial_bases, names_hold}
-use Rattle.gim_ast.specs.Parts.{uses_in_phi, uses_in_stmt, uses_in_block, phi_assigns, stmt_assigns, block_assigns, distinct_stmts, distinct_phis, distinct_names, is_later, rows_rise, is_initial_of, distinct_initials, row_stands_in, row_holds, local_holds, names_by_part}
-use Rattle.gim_ast.proofs.Parts.{and_cong, or_cong, neither, none_of_three, any_cong, all_cong, any_map, all_map, any_flat_map, any_turned}
+use Rattle.gim_ast.specs.RulesByPart.{uses_in_phi, uses_in_stmt, uses_in_block, phi_assigns, stmt_assigns, block_assigns, distinct_stmts, distinct_phis, distinct_names, is_later, rows_rise, is_initial_of, distinct_initials, row_stands_in, row_holds, local_holds, names_by_part}
+use Rattle.gim_ast.proofs.ListTests.{and_cong, or_cong, neither, none_of_three, any_cong, all_cong, any_map, all_map, any_flat_map, any_turned}
 
 -- ---- uses
 
@@ -34,9 +33,9 @@ in_block x block =
     ∙ or_cong (list_any (is_name x) phis) (list_any (uses_in_phi x) block.phis) (list_any (is_name x) stmts) (list_any (uses_in_stmt x) block.stmts)
     (in_phis x block.phis) (any_flat_map (is_name x) operands_of_stmt block.stmts))
 
-used : (f : Function) (x : ℕ) → is_used f x ≡ list_any (uses_in_block x) f.blocks
+pub used_by_block : (f : Function) (x : ℕ) → is_used f x ≡ list_any (uses_in_block x) f.blocks
 unfolding operands_of
-used f x = any_flat_map (is_name x) operands_of_block f.blocks ∙ any_cong (λ block. list_any (is_name x) (operands_of_block block)) (uses_in_block x) (in_block x) f.blocks
+used_by_block f x = any_flat_map (is_name x) operands_of_block f.blocks ∙ any_cong (λ block. list_any (is_name x) (operands_of_block block)) (uses_in_block x) (in_block x) f.blocks
 
 -- ---- assignments
 
@@ -49,9 +48,9 @@ by_block x block =
 by_blocks : (x : ℕ) (blocks : List Block) → list_any (λ y. y == x) (flat_map assigned_in blocks) ≡ list_any (block_assigns x) blocks
 by_blocks x blocks = any_flat_map (λ y. y == x) assigned_in blocks ∙ any_cong (λ block. list_any (λ y. y == x) (assigned_in block)) (block_assigns x) (by_block x) blocks
 
-assigns : (f : Function) (x : ℕ) → is_assigned f x ≡ list_any (block_assigns x) f.blocks
+pub assigned_by_block : (f : Function) (x : ℕ) → is_assigned f x ≡ list_any (block_assigns x) f.blocks
 unfolding assigned
-assigns f x = by_blocks x f.blocks
+assigned_by_block f x = by_blocks x f.blocks
 
 by_stmts : (x : ℕ) (stmts : List Stmt) (after : List Block) → list_any (λ y. x == y) (map stmt_name stmts ++ flat_map assigned_in after) ≡ (list_any (stmt_assigns x) stmts || list_any (block_assigns x) after)
 by_stmts x stmts after =
@@ -115,7 +114,7 @@ stands_alike : (i e a b u w : Bool) → a ≡ b → u ≡ w → (if i then (not 
 stands_alike i e a b u w h k = rw (h, k) refl
 
 stands : (f : Function) (row : NameRow) → row_stands f row ≡ row_stands_in f.blocks row
-stands f row = stands_alike row.initial (same_text row.base []) (is_assigned f row.version) (list_any (block_assigns row.version) f.blocks) (is_used f row.version) (list_any (uses_in_block row.version) f.blocks) (assigns f row.version) (used f row.version)
+stands f row = stands_alike row.initial (same_text row.base []) (is_assigned f row.version) (list_any (block_assigns row.version) f.blocks) (is_used f row.version) (list_any (uses_in_block row.version) f.blocks) (assigned_by_block f row.version) (used_by_block f row.version)
 
 rows_stand : (f : Function) (rows : List NameRow) → list_all (λ (row : NameRow). base_holds f row && row_stands f row) rows ≡ list_all (row_holds f) rows
 rows_stand f rows = all_cong (λ (row : NameRow). base_holds f row && row_stands f row) (row_holds f) (λ row. ap (λ b. base_holds f row && b) (stands f row)) rows

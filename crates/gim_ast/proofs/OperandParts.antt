@@ -12,8 +12,8 @@ use Rattle.gim_ast.specs.declared.function.Block.{Block}
 use Rattle.gim_ast.specs.declared.function.Phi.{Phi}
 use Rattle.gim_ast.specs.Functions.{operands_of, operands_of_phi, operands_of_stmt, operands_of_end, operands_of_block}
 use Rattle.gim_ast.specs.WellFormed.{type_of, operand_holds, block_fits, operands_hold}
-use Rattle.gim_ast.specs.Parts.{phi_operands_hold, stmt_operands_hold, block_operands_hold, operands_by_part}
-use Rattle.gim_ast.proofs.Parts.{and_cong, all_cong, all_map, all_flat_map}
+use Rattle.gim_ast.specs.RulesByPart.{phi_operands_hold, stmt_operands_hold, block_operands_hold, operands_by_part}
+use Rattle.gim_ast.proofs.ListTests.{and_cong, all_cong, all_map, all_flat_map}
 
 pub too_many : (code : Code) (t : Ty) (operands : List Operand) → 4 ≤ length operands → well_typed_operation code t (map type_of operands) ≡ false
 unfolding well_typed_operation

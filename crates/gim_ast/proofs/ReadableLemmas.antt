@@ -10,12 +10,11 @@ use Rattle.gim_ast.specs.declared.function.Block.{Block}
 use Rattle.gim_ast.specs.declared.function.Stmt.{Stmt}
 use Rattle.gim_ast.specs.declared.function.NameRow.{NameRow}
 use Rattle.gim_ast.specs.declared.function.Rhs.{Rhs}
-use Rattle.gim_ast.specs.Functions.{first_where, assigned_in, assigned, phi_name, stmt_name, stmts_of, right_of, row_of, operands_of_rhs, operands_of_stmt, operands_of_end}
+use Rattle.gim_ast.specs.Functions.{first_where, assigned_in, assigned, phi_name, stmt_name, stmts_of, right_of, row_of, operands_of_rhs, operands_of_stmt, operands_of_end, is_used}
 use Rattle.gim_ast.specs.WellFormed.{is_among, all_distinct, same_text, is_assigned, base_holds, row_stands, names_hold}
-use Rattle.gim_ast.specs.Removal.{is_used}
 use Rattle.gim_ast.specs.Paths.{Stretch, stretch_of, flow_of, entry_of, Path, enter, item, jump}
 use Rattle.gim_ast.specs.Readable.{names_among, read_for, Supports, operand, further, is_initial, IsReadable, Use, uses_at, uses_in_phis, uses_in_stmts, uses_in_block, uses_in, IsReadableUse, IsValid}
-use Rattle.gim_ast.proofs.DistinctLemmas.{IsOneOf, assigned_among, one_place}
+use Rattle.gim_ast.proofs.AssignedOnce.{IsOneOf, assigned_among, one_place}
 use Rattle.gim_ast.proofs.SupportLemmas.{AreReadFresh, support_is_fresh, read_by}
 
 -- ---- lists

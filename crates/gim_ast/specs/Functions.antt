@@ -1,6 +1,6 @@
 -- What stands in a function: its operands, the names that it assigns, its statements by name.
 use Rattle.std.specs.Prelude.{ℕ, ◌==◌, Bool, false, ◌&&◌, Option, Some, None, List, [], ◌∷◌, ◌++◌, map, if◌then◌else◌, count_by}
-use Rattle.std.specs.List.{flat_map}
+use Rattle.std.specs.List.{flat_map, list_any}
 use Rattle.std.specs.Option.{option_map}
 use Rattle.pm_wide.specs.Types.{same_type}
 use Rattle.pm_wide.specs.declared.operand.Operand.{Operand}
@@ -48,6 +48,10 @@ is_name x (Const word) = false
 -- in how many operand places of the function the name stands
 abbrev pub uses_of : Function → ℕ → ℕ
 uses_of f x = count_by (is_name x) (operands_of f)
+
+-- some operand of the function is the name
+abbrev pub is_used : Function → ℕ → Bool
+is_used f x = list_any (is_name x) (operands_of f)
 
 abbrev pub phi_name : Phi → ℕ
 phi_name phi = phi.name

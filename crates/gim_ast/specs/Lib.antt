@@ -1,13 +1,8 @@
 pub mod Functions
 pub mod Identifiers
 pub mod Numbers
-pub mod Parts
 pub mod Paths
-pub mod Printing
 pub mod Readable
-pub mod Removal
-pub mod Rewriting
+pub mod RulesByPart
 pub mod Runs
-pub mod Subjects
-pub mod Substitution
 pub mod WellFormed

@@ -18,9 +18,8 @@ use Rattle.gim_ast.specs.declared.function.Rhs.{Rhs}
 use Rattle.gim_ast.specs.declared.function.Rhs.TheVariants.{Copy, Op}
 use Rattle.gim_ast.specs.declared.function.End.{End}
 use Rattle.gim_ast.specs.declared.function.End.TheVariants.{Goto, If, Return}
-use Rattle.gim_ast.specs.Functions.{operands_of, assigned, targets_of, row_of}
+use Rattle.gim_ast.specs.Functions.{operands_of, assigned, targets_of, row_of, is_used}
 use Rattle.gim_ast.specs.Identifiers.{is_identifier, is_anonymous, anonymous}
-use Rattle.gim_ast.specs.Removal.{is_used}
 
 -- ---- general tests
 
@@ -82,9 +81,13 @@ row_stands f row = if row.initial then (not (is_assigned f row.version) && is_us
 abbrev pub initial_bases : List NameRow → List (List ℕ)
 initial_bases rows = flat_map (λ (row : NameRow). if row.initial then row.base ∷ [] else []) rows
 
+-- the rows of names rise by version, so that no version has two
+abbrev pub names_rise : Function → Bool
+names_rise f = rises (map (λ (row : NameRow). row.version) f.names)
+
 -- `names` rises by version, each row holds, no parameter has two default definitions, each anonymous local has its row, and no name is assigned twice
 abbrev pub names_hold : Function → Bool
-names_hold f = rises (map (λ (row : NameRow). row.version) f.names)
+names_hold f = names_rise f
     && list_all (λ (row : NameRow). base_holds f row && row_stands f row) f.names
     && all_distinct same_text (initial_bases f.names)
     && list_all (λ (decl : Decl). not (is_anonymous decl.ident) || list_any (λ (row : NameRow). same_text row.base [] && same_text (anonymous row.version) decl.ident) f.names) f.decls

@@ -8,6 +8,7 @@ use pm_ops::OutOfMemory;
 use pm_wide::Operand;
 use std::alloc::Global;
 
+/// Equal declarations.
 fn copied_decls(alloc: Global, decls: &[Decl]) -> Result<Items<Decl>, OutOfMemory>
     ensures { IfOk result (λ copied. copied ≡ decls.now) }
 {
@@ -21,6 +22,7 @@ fn copied_decls(alloc: Global, decls: &[Decl]) -> Result<Items<Decl>, OutOfMemor
     Ok(copied)
 }
 
+/// Equal rows of `names`.
 fn copied_rows(alloc: Global, rows: &[NameRow]) -> Result<Items<NameRow>, OutOfMemory>
     ensures { IfOk result (λ copied. copied ≡ rows.now) }
 {
@@ -36,6 +38,7 @@ fn copied_rows(alloc: Global, rows: &[NameRow]) -> Result<Items<NameRow>, OutOfM
     Ok(copied)
 }
 
+/// Equal arguments of a phi.
 fn copied_args(alloc: Global, args: &[(u32, Operand)]) -> Result<Items<(u32, Operand)>, OutOfMemory>
     ensures { IfOk result (λ copied. copied ≡ args.now) }
 {
@@ -46,6 +49,7 @@ fn copied_args(alloc: Global, args: &[(u32, Operand)]) -> Result<Items<(u32, Ope
     Ok(copied)
 }
 
+/// Equal phis.
 fn copied_phis(alloc: Global, phis: &[Phi]) -> Result<Items<Phi>, OutOfMemory>
     ensures { IfOk result (λ copied. copied ≡ phis.now) }
 {
@@ -59,6 +63,7 @@ fn copied_phis(alloc: Global, phis: &[Phi]) -> Result<Items<Phi>, OutOfMemory>
     Ok(copied)
 }
 
+/// An equal right side.
 fn copied_rhs(alloc: Global, rhs: &Rhs) -> Result<Rhs, OutOfMemory>
     ensures { IfOk result (λ copied. copied ≡ rhs.now) }
 {
@@ -68,6 +73,7 @@ fn copied_rhs(alloc: Global, rhs: &Rhs) -> Result<Rhs, OutOfMemory>
     }
 }
 
+/// Equal statements.
 fn copied_stmts(alloc: Global, stmts: &[Stmt]) -> Result<Items<Stmt>, OutOfMemory>
     ensures { IfOk result (λ copied. copied ≡ stmts.now) }
 {
@@ -81,6 +87,7 @@ fn copied_stmts(alloc: Global, stmts: &[Stmt]) -> Result<Items<Stmt>, OutOfMemor
     Ok(copied)
 }
 
+/// Equal blocks.
 fn copied_blocks(alloc: Global, blocks: &[Block]) -> Result<Items<Block>, OutOfMemory>
     ensures { IfOk result (λ copied. copied ≡ blocks.now) }
 {

@@ -1,3 +1,4 @@
+//! The types of functions and their parts.
 use crate::operands::Operands;
 use pm_items::Items;
 use pm_ops::{Code, Text};

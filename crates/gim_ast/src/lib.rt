@@ -1,7 +1,7 @@
-//! GIMPLE functions in static single assignment form, and what it means to change them.
+//! GIMPLE functions in static single assignment form.
 //!
 //! The types are here, with equal copies and the test of the rules on them, and the definitions that speak of functions
-//! alone: places and uses, substitution, removal of what is unused, subjects and the rewriting.
+//! alone: uses, well-formed functions, paths and where names are readable on them, and runs.
 #![tactic(auto)]
 
 mod copying;

@@ -1,3 +1,4 @@
+//! The operands of an operation.
 ghost use Rattle.std.specs.Prelude.{◌≡◌, ◌<◌, ◌≤◌, [], ◌∷◌, ◌++◌, length, slice_get, slice_set, IfOk, IsOk};
 
 use pm_ops::OutOfMemory;
@@ -64,12 +65,14 @@ impl Operands {
         Operands { list }
     }
 
+    /// The operands, in order.
     pub fn as_slice(&self) -> &[Operand]
         ensures { result.now ≡ self.now }
     {
         self.list.as_slice()
     }
 
+    /// How many operands there are.
     pub fn len(&self) -> usize
         ensures { result ≡ length self.now }
     {

@@ -1,7 +1,7 @@
 //! The test of the rules that each function of a GIMPLE file keeps, a module for each kind of rule.
 
 ghost use Rattle.std.specs.Prelude.{◌≡◌};
-ghost use Rattle.gim_ast.specs.Parts.{well_formed_by_part};
+ghost use Rattle.gim_ast.specs.RulesByPart.{well_formed_by_part};
 ghost use Rattle.gim_ast.specs.WellFormed.{is_well_formed};
 
 mod blocks;
@@ -16,7 +16,7 @@ use crate::Function;
 
 impl Function {
     /// Whether the function keeps the rules of a GIMPLE file, but for readability and limits. Takes no memory.
-    #[tactic(auto, using(crate::proofs::Whole::whole_parts))]
+    #[tactic(auto, using(crate::proofs::WellFormedTest::whole_parts))]
     pub fn well_formed(&self) -> bool
         ensures { result ≡ is_well_formed self.now }
     {

@@ -1,13 +1,16 @@
+//! A small function with each kind of part, tested and copied.
 use super::*;
 use pm_items::Items;
 use pm_ops::{Code, OutOfMemory, Text};
 use pm_wide::{IntType, Operand};
 use std::alloc::Global;
 
+/// A use of a name of type int.
 fn x(version: u32) -> Operand {
     Operand::Name(version, IntType::int())
 }
 
+/// A row of type int.
 fn row(alloc: Global, version: u32, base: &[u8], initial: bool) -> Result<NameRow, OutOfMemory> {
     Ok(NameRow {
         version,
@@ -17,6 +20,7 @@ fn row(alloc: Global, version: u32, base: &[u8], initial: bool) -> Result<NameRo
     })
 }
 
+/// One declaration of type int.
 fn decls(alloc: Global, ident: &[u8]) -> Result<Items<Decl>, OutOfMemory> {
     let mut decls = Items::new(alloc);
     decls.push(Decl {
@@ -26,6 +30,7 @@ fn decls(alloc: Global, ident: &[u8]) -> Result<Items<Decl>, OutOfMemory> {
     Ok(decls)
 }
 
+/// A block without phis and statements.
 fn block(alloc: Global, number: u32, end: End) -> Block {
     Block {
         number,
@@ -66,6 +71,7 @@ fn sample(alloc: Global, joins_at: u32) -> Result<Function, OutOfMemory> {
     })
 }
 
+/// Each kind of rule is kept by the sample and broken by a change of it.
 #[test]
 fn rules_are_kept_or_not(rt: HostRuntime) -> Result<(), OutOfMemory> {
     let alloc = rt.alloc();
@@ -84,6 +90,7 @@ fn rules_are_kept_or_not(rt: HostRuntime) -> Result<(), OutOfMemory> {
     Ok(())
 }
 
+/// A copy has the parts of what was copied.
 #[test]
 fn a_copy_has_the_same_parts(rt: HostRuntime) -> Result<(), OutOfMemory> {
     let alloc = rt.alloc();

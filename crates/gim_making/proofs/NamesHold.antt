@@ -7,9 +7,8 @@ use Rattle.std.proofs.lemmas.Bool.{and_parts, and_from, eqb-true, false≢true}
 use Rattle.pm_wide.specs.Types.{Ty, bool_type}
 use Rattle.gim_ast.specs.declared.function.Decl.{Decl}
 use Rattle.gim_ast.specs.declared.function.NameRow.{NameRow}
-use Rattle.gim_ast.specs.Functions.{assigned}
+use Rattle.gim_ast.specs.Functions.{assigned, is_used}
 use Rattle.gim_ast.specs.Identifiers.{is_anonymous, anonymous}
-use Rattle.gim_ast.specs.Removal.{is_used}
 use Rattle.gim_ast.specs.WellFormed.{same_text, all_distinct, rises, declares_as, base_holds, row_stands, is_assigned, initial_bases, names_hold}
 use Rattle.gim_text.specs.declared.token.Span.{Span}
 use Rattle.gim_text.specs.declared.tree.DeclText.{DeclText}

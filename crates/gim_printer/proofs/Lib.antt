@@ -1,3 +1,2 @@
-pub mod Rows
-pub mod Signs
-pub mod WellFormedLemmas
+pub mod RowSearch
+pub mod SignedNumbers

@@ -1,5 +1,7 @@
+//! Whole functions: their heads, their declarations and their blocks.
 ghost use Rattle.std.specs.Prelude.{◌≡◌, ◌++◌, OnOk, IsTrue, flat_map};
-ghost use Rattle.gim_ast.specs.Printing.{names_rise, line, listed, declared_text, decl_line, signature_line, head_text, phi_line, stmt_line, block_text, function_text};
+ghost use Rattle.gim_ast.specs.WellFormed.{names_rise};
+ghost use Rattle.gim_printer.specs.Printing.{line, listed, declared_text, decl_line, signature_line, head_text, phi_line, stmt_line, block_text, function_text};
 
 use crate::numbers::push_number;
 use crate::operands::type_name;
@@ -9,7 +11,7 @@ use pm_items::Items;
 use pm_ops::OutOfMemory;
 
 /// Appends the lines of a function.
-#[tactic(auto, unfolding(gim_ast::specs::Printing::function_text))]
+#[tactic(auto, unfolding(crate::specs::Printing::function_text))]
 pub fn push_function(out: &mut Items<u8>, function: &Function) -> Result<(), OutOfMemory>
     requires { IsTrue (names_rise function.now) }
     ensures { OnOk result (out.new ≡ out.old ++ function_text function.now) }
@@ -22,7 +24,7 @@ pub fn push_function(out: &mut Items<u8>, function: &Function) -> Result<(), Out
 }
 
 /// Appends the lines up to the brace.
-#[tactic(auto, unfolding(gim_ast::specs::Printing::head_text))]
+#[tactic(auto, unfolding(crate::specs::Printing::head_text))]
 fn push_head(out: &mut Items<u8>, function: &Function) -> Result<(), OutOfMemory>
     ensures { OnOk result (out.new ≡ out.old ++ head_text function.now) }
 {
@@ -79,7 +81,7 @@ fn push_decls(out: &mut Items<u8>, decls: &[Decl]) -> Result<(), OutOfMemory>
 }
 
 /// Appends the line of a declaration.
-#[tactic(auto, unfolding(gim_ast::specs::Printing::decl_line))]
+#[tactic(auto, unfolding(crate::specs::Printing::decl_line))]
 fn push_decl(out: &mut Items<u8>, decl: &Decl) -> Result<(), OutOfMemory>
     ensures { OnOk result (out.new ≡ out.old ++ decl_line decl.now) }
 {
@@ -105,7 +107,7 @@ fn push_blocks(
 }
 
 /// Appends the lines of a block.
-#[tactic(auto, unfolding(gim_ast::specs::Printing::block_text))]
+#[tactic(auto, unfolding(crate::specs::Printing::block_text))]
 fn push_block(out: &mut Items<u8>, function: &Function, block: &Block) -> Result<(), OutOfMemory>
     requires { IsTrue (names_rise function.now) }
     ensures { OnOk result (out.new ≡ out.old ++ block_text function.now block.now) }

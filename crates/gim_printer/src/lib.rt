@@ -5,7 +5,8 @@
 #![tactic(auto)]
 
 ghost use Rattle.std.specs.Prelude.{◌≡◌, IfOk, IsTrue, All};
-ghost use Rattle.gim_ast.specs.Printing.{text, names_rise};
+ghost use Rattle.gim_printer.specs.Printing.{text};
+ghost use Rattle.gim_ast.specs.WellFormed.{names_rise};
 
 mod functions;
 mod names;
@@ -24,7 +25,7 @@ use std::alloc::Global;
 /// The text of the functions in order, with an empty line between two.
 ///
 /// The rows of each function's `names` rise by version, so that names are found by binary search.
-#[tactic(auto, unfolding(gim_ast::specs::Printing::text))]
+#[tactic(auto, unfolding(crate::specs::Printing::text))]
 pub fn print(alloc: Global, functions: &[Function]) -> Result<Vec<u8>, OutOfMemory>
     requires { All (λ f. IsTrue (names_rise f)) functions.now }
     ensures { IfOk result (λ bytes. bytes.items ≡ text functions.now) }

@@ -1,6 +1,8 @@
-ghost use Rattle.std.specs.Prelude.{◌≡◌, ◌++◌, OnOk, IsTrue, option_copied};
+//! Names of a function as they stand in its text, and their types.
+ghost use Rattle.std.specs.Prelude.{◌≡◌, ◌++◌, OnOk, OnErr, IsTrue, codes, option_copied};
 ghost use Rattle.gim_ast.specs.Functions.{row_of};
-ghost use Rattle.gim_ast.specs.Printing.{names_rise, name_text, assigned_text, used_text, type_of_name};
+ghost use Rattle.gim_ast.specs.WellFormed.{names_rise};
+ghost use Rattle.gim_printer.specs.Printing.{name_text, assigned_text, used_text, type_of_name};
 
 use crate::numbers::push_number;
 use gim_ast::{Function, NameRow};
@@ -8,26 +10,48 @@ use pm_items::Items;
 use pm_ops::OutOfMemory;
 use pm_wide::IntType;
 
-/// Appends the name `BASE_VERSION`, as it stands where it is assigned.
-///
-/// After an `Err` a part of it may stand at the end of the text.
+/// Appends the name `BASE_VERSION`, as it stands where it is assigned. An `Err` changes nothing.
 pub fn push_name(out: &mut Items<u8>, base: &[u8], version: u32) -> Result<(), OutOfMemory>
-    ensures { OnOk result (out.new ≡ out.old ++ name_text base.now version) }
+    ensures ok { OnOk result (out.new ≡ out.old ++ name_text base.now version) }
+    ensures err { OnErr result (out.new ≡ out.old) }
 {
-    out.extend_from_slice(base)?;
-    out.extend_from_slice(b"_")?;
-    push_number(out, version as u128)
+    let before = out.len();
+    push_stem(out, base)?;
+    match push_number(out, version as u128) {
+        Ok(()) => Ok(()),
+        Err(fault) => {
+            out.truncate(before);
+            Err(fault)
+        }
+    }
 }
 
-/// Appends a name of the function, as it stands where it is assigned.
-#[tactic(auto, unfolding(gim_ast::specs::Printing::base_of))]
+/// Appends the base of a name and an underscore. An `Err` changes nothing.
+fn push_stem(out: &mut Items<u8>, base: &[u8]) -> Result<(), OutOfMemory>
+    ensures ok { OnOk result (out.new ≡ out.old ++ (base.now ++ codes "_")) }
+    ensures err { OnErr result (out.new ≡ out.old) }
+{
+    let before = out.len();
+    out.extend_from_slice(base)?;
+    match out.push(b'_') {
+        Ok(()) => Ok(()),
+        Err(fault) => {
+            out.truncate(before);
+            Err(OutOfMemory::from(fault))
+        }
+    }
+}
+
+/// Appends a name of the function, as it stands where it is assigned. An `Err` changes nothing.
+#[tactic(auto, unfolding(crate::specs::Printing::base_of))]
 pub fn push_assigned(
     out: &mut Items<u8>,
     function: &Function,
     version: u32,
 ) -> Result<(), OutOfMemory>
     requires { IsTrue (names_rise function.now) }
-    ensures { OnOk result (out.new ≡ out.old ++ assigned_text function.now version) }
+    ensures ok { OnOk result (out.new ≡ out.old ++ assigned_text function.now version) }
+    ensures err { OnErr result (out.new ≡ out.old) }
 {
     match row(function, version) {
         Some(row) => push_name(out, row.base.bytes(), version),
@@ -36,7 +60,7 @@ pub fn push_assigned(
 }
 
 /// Appends a name of the function, as it stands where it is used.
-#[tactic(auto, unfolding(gim_ast::specs::Printing::is_initial))]
+#[tactic(auto, unfolding(gim_ast::specs::Readable::is_initial))]
 pub fn push_used(out: &mut Items<u8>, function: &Function, version: u32) -> Result<(), OutOfMemory>
     requires { IsTrue (names_rise function.now) }
     ensures { OnOk result (out.new ≡ out.old ++ used_text function.now version) }
@@ -49,7 +73,7 @@ pub fn push_used(out: &mut Items<u8>, function: &Function, version: u32) -> Resu
 }
 
 /// The type of a name of the function.
-#[tactic(auto, unfolding(gim_ast::specs::Printing::type_of_name))]
+#[tactic(auto, unfolding(crate::specs::Printing::type_of_name))]
 pub fn type_of_name(function: &Function, version: u32) -> IntType
     requires { IsTrue (names_rise function.now) }
     ensures { result ≡ type_of_name function.now version }

@@ -1,3 +1,4 @@
+//! Numbers as they stand in a text.
 ghost use Rattle.std.specs.Prelude.{◌≡◌, ◌++◌, OnOk, OnErr, decimal};
 ghost use Rattle.std.specs.Fmt.{signed_decimal};
 ghost use Rattle.pm_wide.specs.Types.{value};
@@ -17,17 +18,25 @@ pub fn push_number(out: &mut Items<u8>, number: u128) -> Result<(), OutOfMemory>
     Ok(())
 }
 
-/// Appends the value of a word, with a minus where it is below 0.
+/// Appends the value of a word, with a minus where it is below 0. An `Err` changes nothing.
 pub fn push_value(out: &mut Items<u8>, word: &Wide) -> Result<(), OutOfMemory>
-    ensures { OnOk result (out.new ≡ out.old ++ signed_decimal (value word.now)) }
+    ensures ok { OnOk result (out.new ≡ out.old ++ signed_decimal (value word.now)) }
+    ensures err { OnErr result (out.new ≡ out.old) }
 {
     let (sign, size) = sign_and_size(word);
+    let before = out.len();
     out.extend_from_slice(sign.as_bytes())?;
-    push_number(out, size)
+    match push_number(out, size) {
+        Ok(()) => Ok(()),
+        Err(fault) => {
+            out.truncate(before);
+            Err(fault)
+        }
+    }
 }
 
 /// The sign of a word's value, and how far it is from 0.
-#[tactic(auto, using(crate::proofs::Signs::below_zero))]
+#[tactic(auto, using(crate::proofs::SignedNumbers::below_zero))]
 fn sign_and_size(word: &Wide) -> (&'static str, u128)
     ensures { result.0.now ++ decimal result.1 ≡ signed_decimal (value word.now) }
 {

@@ -1,5 +1,7 @@
+//! Types, constants and operands.
 ghost use Rattle.std.specs.Prelude.{◌≡◌, ◌++◌, OnOk, IsTrue, option_copied};
-ghost use Rattle.gim_ast.specs.Printing.{names_rise, type_text, suffix_of, literal_text, constant_text, operand_text, negated_text};
+ghost use Rattle.gim_ast.specs.WellFormed.{names_rise};
+ghost use Rattle.gim_printer.specs.Printing.{type_text, suffix_of, literal_text, constant_text, operand_text, negated_text};
 
 use crate::names::push_used;
 use crate::numbers::push_value;
@@ -9,7 +11,7 @@ use pm_ops::OutOfMemory;
 use pm_wide::{IntType, Operand, Wide};
 
 /// The name of a type.
-#[tactic(auto, unfolding(gim_ast::specs::Printing::type_text))]
+#[tactic(auto, unfolding(crate::specs::Printing::type_text))]
 pub fn type_name(ty: IntType) -> &'static str
     ensures { result.now ≡ type_text ty }
 {
@@ -29,7 +31,7 @@ pub fn type_name(ty: IntType) -> &'static str
 }
 
 /// What follows the digits of a constant, for the four types that show by it.
-#[tactic(auto, unfolding(gim_ast::specs::Printing::suffix_of))]
+#[tactic(auto, unfolding(crate::specs::Printing::suffix_of))]
 fn suffix(ty: IntType) -> Option<&'static str>
     ensures { option_copied result ≡ suffix_of ty }
 {
@@ -53,7 +55,7 @@ fn push_literal(out: &mut Items<u8>, word: &Wide) -> Result<(), OutOfMemory>
 }
 
 /// Appends a constant.
-#[tactic(auto, unfolding(gim_ast::specs::Printing::constant_text))]
+#[tactic(auto, unfolding(crate::specs::Printing::constant_text))]
 fn push_constant(out: &mut Items<u8>, word: &Wide) -> Result<(), OutOfMemory>
     ensures { OnOk result (out.new ≡ out.old ++ constant_text word.now) }
 {
@@ -68,7 +70,7 @@ fn push_constant(out: &mut Items<u8>, word: &Wide) -> Result<(), OutOfMemory>
 }
 
 /// Appends an operand.
-#[tactic(auto, unfolding(gim_ast::specs::Printing::operand_text))]
+#[tactic(auto, unfolding(crate::specs::Printing::operand_text))]
 pub fn push_operand(
     out: &mut Items<u8>,
     function: &Function,
@@ -84,7 +86,7 @@ pub fn push_operand(
 }
 
 /// Appends the operand of a unary minus.
-#[tactic(auto, unfolding(gim_ast::specs::Printing::negated_text))]
+#[tactic(auto, unfolding(crate::specs::Printing::negated_text))]
 pub fn push_negated(
     out: &mut Items<u8>,
     function: &Function,

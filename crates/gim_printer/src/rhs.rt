@@ -1,5 +1,7 @@
+//! Right sides.
 ghost use Rattle.std.specs.Prelude.{◌≡◌, ◌++◌, OnOk, IsTrue};
-ghost use Rattle.gim_ast.specs.Printing.{names_rise, prefix_text, unary_text, sign_text, infix_text, binary_text, ternary_text, operation_text, rhs_text};
+ghost use Rattle.gim_ast.specs.WellFormed.{names_rise};
+ghost use Rattle.gim_printer.specs.Printing.{prefix_text, unary_text, sign_text, infix_text, binary_text, ternary_text, operation_text, rhs_text};
 
 use crate::operands::{push_negated, push_operand, type_name};
 use gim_ast::{Function, Rhs};
@@ -8,7 +10,7 @@ use pm_ops::{Code, OutOfMemory};
 use pm_wide::{IntType, Operand};
 
 /// Appends a right side, whose type is `ty`.
-#[tactic(auto, unfolding(gim_ast::specs::Printing::rhs_text))]
+#[tactic(auto, unfolding(crate::specs::Printing::rhs_text))]
 pub fn push_rhs(
     out: &mut Items<u8>,
     function: &Function,
@@ -25,7 +27,7 @@ pub fn push_rhs(
 }
 
 /// Appends an operation, whose type is `ty`.
-#[tactic(auto, unfolding(gim_ast::specs::Printing::operation_text))]
+#[tactic(auto, unfolding(crate::specs::Printing::operation_text))]
 fn push_operation(
     out: &mut Items<u8>,
     function: &Function,
@@ -63,7 +65,7 @@ fn push_unary(
 }
 
 /// Appends what stands before the operand of an operation on one.
-#[tactic(auto, unfolding(gim_ast::specs::Printing::prefix_text))]
+#[tactic(auto, unfolding(crate::specs::Printing::prefix_text))]
 fn push_prefix(out: &mut Items<u8>, ty: IntType, code: Code) -> Result<(), OutOfMemory>
     ensures { OnOk result (out.new ≡ out.old ++ prefix_text ty code) }
 {
@@ -125,7 +127,7 @@ pub fn push_infix(
 }
 
 /// The sign between two operands.
-#[tactic(auto, unfolding(gim_ast::specs::Printing::sign_text))]
+#[tactic(auto, unfolding(crate::specs::Printing::sign_text))]
 fn sign(code: Code) -> &'static str
     ensures { result.now ≡ sign_text code }
 {

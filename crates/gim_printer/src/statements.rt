@@ -1,5 +1,7 @@
+//! The lines of a block: phis, statements and ends.
 ghost use Rattle.std.specs.Prelude.{◌≡◌, ◌++◌, OnOk, IsTrue};
-ghost use Rattle.gim_ast.specs.Printing.{names_rise, listed, phi_argument_text, phi_line, stmt_line, condition_line, jump_text, end_lines, line};
+ghost use Rattle.gim_ast.specs.WellFormed.{names_rise};
+ghost use Rattle.gim_printer.specs.Printing.{listed, phi_argument_text, phi_line, stmt_line, condition_line, jump_text, end_lines, line};
 
 use crate::names::{push_assigned, type_of_name};
 use crate::numbers::push_number;
@@ -11,7 +13,7 @@ use pm_ops::{Code, OutOfMemory};
 use pm_wide::Operand;
 
 /// Appends the line of a phi.
-#[tactic(auto, unfolding(gim_ast::specs::Printing::phi_line))]
+#[tactic(auto, unfolding(crate::specs::Printing::phi_line))]
 pub fn push_phi(out: &mut Items<u8>, function: &Function, phi: &Phi) -> Result<(), OutOfMemory>
     requires { IsTrue (names_rise function.now) }
     ensures { OnOk result (out.new ≡ out.old ++ phi_line function.now phi.now) }
@@ -60,7 +62,7 @@ fn push_phi_argument(
 }
 
 /// Appends the line of a statement.
-#[tactic(auto, unfolding(gim_ast::specs::Printing::stmt_line))]
+#[tactic(auto, unfolding(crate::specs::Printing::stmt_line))]
 pub fn push_stmt(out: &mut Items<u8>, function: &Function, stmt: &Stmt) -> Result<(), OutOfMemory>
     requires { IsTrue (names_rise function.now) }
     ensures { OnOk result (out.new ≡ out.old ++ stmt_line function.now stmt.now) }
@@ -74,7 +76,7 @@ pub fn push_stmt(out: &mut Items<u8>, function: &Function, stmt: &Stmt) -> Resul
 }
 
 /// Appends the lines of an end.
-#[tactic(auto, unfolding(gim_ast::specs::Printing::end_lines))]
+#[tactic(auto, unfolding(crate::specs::Printing::end_lines))]
 pub fn push_end(out: &mut Items<u8>, function: &Function, end: &End) -> Result<(), OutOfMemory>
     requires { IsTrue (names_rise function.now) }
     ensures { OnOk result (out.new ≡ out.old ++ end_lines function.now end.now) }

@@ -1,7 +1,7 @@
+//! Functions with each form of line, printed and compared with their text.
 ghost use Rattle.std.specs.Prelude.{◌≡◌, IfOk, IsTrue, map};
 ghost use Rattle.gim_ast.specs.declared.function.NameRow.{NameRow};
-ghost use Rattle.gim_ast.specs.WellFormed.{rises};
-ghost use Rattle.gim_ast.specs.Printing.{names_rise};
+ghost use Rattle.gim_ast.specs.WellFormed.{rises, names_rise};
 
 use super::*;
 use gim_ast::{Block, Decl, End, NameRow, Operands, Phi, Rhs, Stmt};
@@ -79,26 +79,32 @@ _8 ()
 }
 ";
 
+/// A type by its width and sign.
 fn kind(bits: u8, unsigned: bool) -> IntType {
     IntType::new(bits, unsigned).unwrap_or(IntType::default())
 }
 
+/// A constant of 0 or above.
 fn constant(bits: u8, unsigned: bool, size: u128) -> Operand {
     Operand::Const(Wide::reduce(size, kind(bits, unsigned)))
 }
 
+/// A constant below 0.
 fn below_zero(bits: u8, size: u128) -> Operand {
     Operand::Const(Wide::reduce(0u128.wrapping_sub(size), kind(bits, false)))
 }
 
+/// A constant of type int.
 fn int(size: u128) -> Operand {
     constant(32, false, size)
 }
 
+/// A use of a name.
 fn name(version: u32) -> Operand {
     Operand::Name(version, IntType::default())
 }
 
+/// A declaration.
 fn decl(alloc: Global, bits: u8, unsigned: bool, ident: &[u8]) -> Result<Decl, OutOfMemory> {
     let ident = Text::new(alloc, ident)?;
     Ok(Decl {
@@ -107,6 +113,7 @@ fn decl(alloc: Global, bits: u8, unsigned: bool, ident: &[u8]) -> Result<Decl, O
     })
 }
 
+/// A row of `names`.
 fn row(
     alloc: Global,
     version: u32,
@@ -125,6 +132,7 @@ fn row(
     })
 }
 
+/// The rows of both functions.
 fn rows(alloc: Global) -> Result<Items<NameRow>, OutOfMemory>
     ensures { IfOk result (λ rows. IsTrue (rises (map (λ (row : NameRow). row.version) rows))) }
 {
@@ -142,6 +150,7 @@ fn rows(alloc: Global) -> Result<Items<NameRow>, OutOfMemory>
     Ok(Items::from_vec(rows))
 }
 
+/// A local of each type, and an anonymous one.
 fn decls(alloc: Global) -> Result<Items<Decl>, OutOfMemory> {
     let decls = Vec::from_array(
         alloc,
@@ -163,6 +172,7 @@ fn decls(alloc: Global) -> Result<Items<Decl>, OutOfMemory> {
     Ok(Items::from_vec(decls))
 }
 
+/// A statement that copies.
 fn copied(version: u32, operand: Operand) -> Stmt {
     Stmt {
         name: version,
@@ -170,6 +180,7 @@ fn copied(version: u32, operand: Operand) -> Stmt {
     }
 }
 
+/// A statement with an operation on one operand.
 fn unary(alloc: Global, version: u32, code: Code, operand: Operand) -> Stmt {
     Stmt {
         name: version,
@@ -177,6 +188,7 @@ fn unary(alloc: Global, version: u32, code: Code, operand: Operand) -> Stmt {
     }
 }
 
+/// A statement with an operation on two.
 fn binary(alloc: Global, version: u32, left: Operand, code: Code, right: Operand) -> Stmt {
     Stmt {
         name: version,
@@ -184,6 +196,7 @@ fn binary(alloc: Global, version: u32, left: Operand, code: Code, right: Operand
     }
 }
 
+/// Operations on numbers.
 fn arithmetic(alloc: Global) -> Result<Items<Stmt>, OutOfMemory> {
     let stmts = Vec::from_array(
         alloc,
@@ -206,6 +219,7 @@ fn arithmetic(alloc: Global) -> Result<Items<Stmt>, OutOfMemory> {
     Ok(Items::from_vec(stmts))
 }
 
+/// Operations on bits, shifts, and the lesser and the greater of two.
 fn bitwise(alloc: Global) -> Result<Items<Stmt>, OutOfMemory> {
     let greatest = constant(64, false, 9223372036854775807);
     let least = below_zero(64, 9223372036854775808);
@@ -244,6 +258,7 @@ fn compared_signed(alloc: Global, bits: u8, below: u128, code: Code, right: u128
     binary(alloc, 4, left, code, right)
 }
 
+/// Comparisons at several types, a wide constant and a choice.
 fn comparisons(alloc: Global) -> Result<Items<Stmt>, OutOfMemory> {
     let chosen = Operands::three(alloc, name(4), name(3), int(10));
     let stmts = Vec::from_array(
@@ -265,6 +280,7 @@ fn comparisons(alloc: Global) -> Result<Items<Stmt>, OutOfMemory> {
     Ok(Items::from_vec(stmts))
 }
 
+/// Phis with one argument and with two.
 fn phis(alloc: Global) -> Result<Items<Phi>, OutOfMemory> {
     let one = constant(32, true, 1);
     let mut phis = Items::new(alloc);
@@ -279,6 +295,7 @@ fn phis(alloc: Global) -> Result<Items<Phi>, OutOfMemory> {
     Ok(phis)
 }
 
+/// Blocks with each kind of end.
 fn blocks(alloc: Global) -> Result<Items<Block>, OutOfMemory> {
     let mut first = arithmetic(alloc)?;
     first.append(bitwise(alloc)?)?;
@@ -309,6 +326,7 @@ fn blocks(alloc: Global) -> Result<Items<Block>, OutOfMemory> {
     Ok(Items::from_vec(blocks))
 }
 
+/// A function with each form of line.
 fn forms(alloc: Global) -> Result<Function, OutOfMemory>
     ensures { IfOk result (λ f. IsTrue (names_rise f)) }
 {
@@ -325,6 +343,7 @@ fn forms(alloc: Global) -> Result<Function, OutOfMemory>
     })
 }
 
+/// A function without parameters, declarations and statements.
 fn bare(alloc: Global) -> Result<Function, OutOfMemory>
     ensures { IfOk result (λ f. IsTrue (names_rise f)) }
 {
@@ -345,6 +364,7 @@ fn bare(alloc: Global) -> Result<Function, OutOfMemory>
     })
 }
 
+/// Two functions are printed as their text stands.
 #[test]
 fn prints_each_form(rt: HostRuntime) -> Result<(), Fail> {
     let alloc = rt.alloc();
@@ -354,6 +374,7 @@ fn prints_each_form(rt: HostRuntime) -> Result<(), Fail> {
     Ok(())
 }
 
+/// Names and numbers are appended to what is there.
 #[test]
 fn appends_to_a_text(rt: HostRuntime) -> Result<(), Fail> {
     let alloc = rt.alloc();

@@ -7,7 +7,7 @@ use Rattle.std.proofs.lemmas.List.{append_assoc}
 use Rattle.grammar.specs.Spelling.{Many}
 use Rattle.gim_ast.specs.declared.function.Function.{Function}
 use Rattle.gim_ast.specs.declared.function.Block.{Block}
-use Rattle.gim_ast.specs.Printing.{line, phi_line, stmt_line, end_lines, block_text}
+use Rattle.gim_printer.specs.Printing.{line, phi_line, stmt_line, end_lines, block_text}
 use Rattle.gim_ast.specs.WellFormed.{IsWellFormed}
 use Rattle.gim_text.specs.declared.token.Token.{Token}
 use Rattle.gim_text.specs.declared.token.Keyword.TheVariants as keywords

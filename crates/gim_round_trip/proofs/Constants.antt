@@ -16,7 +16,7 @@ use Rattle.pm_wide.proofs.Words.{word-value, value_in_range}
 use Rattle.pm_wide.proofs.Wrapping.{small_value}
 use Rattle.gim_ast.specs.declared.function.Function.{Function}
 use Rattle.gim_ast.specs.Numbers.{number_after}
-use Rattle.gim_ast.specs.Printing.{type_text, literal_text, suffix_of, constant_text}
+use Rattle.gim_printer.specs.Printing.{type_text, literal_text, suffix_of, constant_text}
 use Rattle.gim_ast.specs.WellFormed.{is_type_of, is_word}
 use Rattle.gim_ast.proofs.NumberLemmas.{number_text_is_digits}
 use Rattle.gim_text.specs.declared.token.Keyword.TheVariants as keywords

@@ -6,7 +6,7 @@ use Rattle.std.proofs.lemmas.List.{append_assoc, append-nil}
 use Rattle.gim_ast.specs.declared.function.Function.{Function}
 use Rattle.gim_ast.specs.declared.function.Decl.{Decl}
 use Rattle.gim_ast.specs.Identifiers.{is_identifier}
-use Rattle.gim_ast.specs.Printing.{line, listed, type_text, declared_text, decl_line, block_text, head_text, function_text}
+use Rattle.gim_printer.specs.Printing.{line, listed, type_text, declared_text, decl_line, block_text, head_text, function_text}
 use Rattle.gim_ast.specs.WellFormed.{IsWellFormed, ident_of}
 use Rattle.gim_text.specs.Texts.{text_of}
 use Rattle.gim_text.specs.declared.token.Span.{Span}

@@ -15,7 +15,7 @@ use Rattle.gim_ast.specs.declared.function.Decl.{Decl}
 use Rattle.gim_ast.specs.declared.function.NameRow.{NameRow}
 use Rattle.gim_ast.specs.Functions.{operands_of, row_of}
 use Rattle.gim_ast.specs.Identifiers.{anonymous}
-use Rattle.gim_ast.specs.Printing.{assigned_text}
+use Rattle.gim_printer.specs.Printing.{assigned_text}
 use Rattle.gim_ast.specs.WellFormed.{IsWellFormed, same_text, all_distinct, ident_of, declares_as, base_holds}
 use Rattle.gim_text.specs.declared.token.Span.{Span}
 use Rattle.gim_text.specs.declared.tree.DeclText.{DeclText}

@@ -15,7 +15,7 @@ use Rattle.gim_ast.specs.declared.function.Stmt.{Stmt}
 use Rattle.gim_ast.specs.declared.function.Decl.{Decl}
 use Rattle.gim_ast.specs.declared.function.NameRow.{NameRow}
 use Rattle.gim_ast.specs.Functions.{operands_of, operands_of_block, operands_of_phi, operands_of_stmt, operands_of_end}
-use Rattle.gim_ast.specs.Printing.{line, listed, assigned_text, type_of_name, operand_text, rhs_text, phi_argument_text, phi_line, stmt_line}
+use Rattle.gim_printer.specs.Printing.{line, listed, assigned_text, type_of_name, operand_text, rhs_text, phi_argument_text, phi_line, stmt_line}
 use Rattle.gim_ast.specs.WellFormed.{IsWellFormed, is_type_of, is_empty, operand_holds, phi_fits, stmt_fits, rhs_fits, phi_holds, base_holds, declares_as, same_text}
 use Rattle.gim_ast.specs.Identifiers.{anonymous}
 use Rattle.gim_text.specs.declared.token.Keyword.TheVariants as keywords

@@ -18,7 +18,7 @@ use Rattle.gim_ast.specs.declared.function.Rhs.TheVariants as sides
 use Rattle.gim_ast.specs.declared.function.End.{End}
 use Rattle.gim_ast.specs.declared.function.End.TheVariants as ends
 use Rattle.gim_ast.specs.Functions.{operands_of, operands_of_block, operands_of_phi, operands_of_stmt, operands_of_rhs, operands_of_end, targets_of}
-use Rattle.gim_ast.specs.Printing.{type_of_name}
+use Rattle.gim_printer.specs.Printing.{type_of_name}
 use Rattle.gim_ast.specs.WellFormed.{phi_fits, stmt_fits, block_fits}
 use Rattle.gim_text.specs.declared.token.Span.{Span}
 use Rattle.gim_text.specs.declared.tree.ArgText.{ArgText}

@@ -10,9 +10,9 @@ use Rattle.gim_ast.specs.declared.function.Function.{Function}
 use Rattle.gim_ast.specs.declared.function.Phi.{Phi}
 use Rattle.gim_ast.specs.declared.function.Stmt.{Stmt}
 use Rattle.gim_ast.specs.declared.function.NameRow.{NameRow}
-use Rattle.gim_ast.specs.Functions.{operands_of, assigned, assigned_in, phi_name, stmt_name, is_name, row_of}
-use Rattle.gim_ast.specs.Printing.{assigned_text, is_initial}
-use Rattle.gim_ast.specs.Removal.{is_used}
+use Rattle.gim_ast.specs.Functions.{operands_of, assigned, assigned_in, phi_name, stmt_name, is_name, row_of, is_used}
+use Rattle.gim_printer.specs.Printing.{assigned_text}
+use Rattle.gim_ast.specs.Readable.{is_initial}
 use Rattle.gim_ast.specs.WellFormed.{IsWellFormed, same_text, ident_of, is_assigned, base_holds, phi_fits, stmt_fits}
 use Rattle.gim_text.specs.declared.token.Span.{Span}
 use Rattle.gim_text.specs.declared.tree.FunctionText.{FunctionText}

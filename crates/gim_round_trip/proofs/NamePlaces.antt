@@ -16,9 +16,9 @@ use Rattle.gim_ast.specs.declared.function.Rhs.{Rhs}
 use Rattle.gim_ast.specs.declared.function.Rhs.TheVariants as sides
 use Rattle.gim_ast.specs.declared.function.End.{End}
 use Rattle.gim_ast.specs.declared.function.End.TheVariants as ends
-use Rattle.gim_ast.specs.Functions.{is_name, operands_of, operands_of_block, operands_of_phi, operands_of_stmt, operands_of_rhs, operands_of_end, assigned, assigned_in, phi_name, stmt_name, row_of}
-use Rattle.gim_ast.specs.Printing.{assigned_text, is_initial, type_of_name}
-use Rattle.gim_ast.specs.Removal.{is_used}
+use Rattle.gim_ast.specs.Functions.{is_name, operands_of, operands_of_block, operands_of_phi, operands_of_stmt, operands_of_rhs, operands_of_end, assigned, assigned_in, phi_name, stmt_name, row_of, is_used}
+use Rattle.gim_printer.specs.Printing.{assigned_text, type_of_name}
+use Rattle.gim_ast.specs.Readable.{is_initial}
 use Rattle.gim_ast.specs.WellFormed.{is_assigned}
 use Rattle.gim_text.specs.declared.token.Span.{Span}
 use Rattle.gim_text.specs.declared.tree.BlockText.{BlockText}

@@ -11,7 +11,7 @@ use Rattle.gim_ast.specs.declared.function.Decl.{Decl}
 use Rattle.gim_ast.specs.declared.function.NameRow.{NameRow}
 use Rattle.gim_ast.specs.Functions.{row_of}
 use Rattle.gim_ast.specs.Identifiers.{is_letter, is_word_byte, is_word_text, is_number_text, is_block_word, is_reserved, is_identifier, anonymous, reserved_words}
-use Rattle.gim_ast.specs.Printing.{assigned_text}
+use Rattle.gim_printer.specs.Printing.{assigned_text}
 use Rattle.gim_ast.specs.WellFormed.{IsWellFormed, same_text, ident_of, declares_as, base_holds}
 use Rattle.gim_ast.proofs.NumberLemmas.{decimal_is_number_text, number_text_is_digits}
 use Rattle.gim_text.specs.Texts.{name_parts}

@@ -9,7 +9,7 @@ use Rattle.gim_ast.specs.declared.function.Function.{Function}
 use Rattle.gim_ast.specs.declared.function.Decl.{Decl}
 use Rattle.gim_ast.specs.declared.function.NameRow.{NameRow}
 use Rattle.gim_ast.specs.Identifiers.{is_number_text, is_anonymous, anonymous}
-use Rattle.gim_ast.specs.Removal.{is_used}
+use Rattle.gim_ast.specs.Functions.{is_used}
 use Rattle.gim_ast.specs.WellFormed.{same_text, rises, declares_as, base_holds, is_assigned}
 use Rattle.gim_ast.proofs.NumberLemmas.{decimal_is_number_text}
 use Rattle.gim_text.specs.declared.token.Span.{Span}

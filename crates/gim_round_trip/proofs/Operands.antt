@@ -10,7 +10,8 @@ use Rattle.gim_ast.specs.declared.function.NameRow.{NameRow}
 use Rattle.gim_ast.specs.declared.function.Decl.{Decl}
 use Rattle.gim_ast.specs.Functions.{row_of}
 use Rattle.gim_ast.specs.Identifiers.{is_identifier}
-use Rattle.gim_ast.specs.Printing.{type_text, assigned_text, used_text, is_initial, operand_text, negated_text, declared_text}
+use Rattle.gim_printer.specs.Printing.{type_text, assigned_text, used_text, operand_text, negated_text, declared_text}
+use Rattle.gim_ast.specs.Readable.{is_initial}
 use Rattle.gim_ast.specs.WellFormed.{IsWellFormed, is_type_of, operand_holds}
 use Rattle.gim_text.specs.declared.token.Keyword.TheVariants as keywords
 use Rattle.gim_text.specs.declared.token.Mark.TheVariants as marks

@@ -11,7 +11,7 @@ use Rattle.gim_ast.specs.declared.function.Decl.{Decl}
 use Rattle.gim_ast.specs.declared.function.NameRow.{NameRow}
 use Rattle.gim_ast.specs.Functions.{assigned}
 use Rattle.gim_ast.specs.Identifiers.{is_anonymous, anonymous}
-use Rattle.gim_ast.specs.Printing.{assigned_text}
+use Rattle.gim_printer.specs.Printing.{assigned_text}
 use Rattle.gim_ast.specs.WellFormed.{IsWellFormed, same_text, all_distinct, ident_of, initial_bases, numbers_of}
 use Rattle.gim_ast.proofs.NumberLemmas.{decimal_is_number_text}
 use Rattle.gim_text.specs.declared.tree.FunctionText.{FunctionText}

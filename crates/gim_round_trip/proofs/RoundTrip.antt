@@ -1,7 +1,7 @@
 -- What is printed is read back.
 use Rattle.std.proofs.Common.{◌≡◌, ℕ, None, List, refl}
 use Rattle.gim_ast.specs.declared.function.Function.{Function}
-use Rattle.gim_ast.specs.Printing.{text}
+use Rattle.gim_printer.specs.Printing.{text}
 use Rattle.gim_text.specs.declared.tree.FunctionText.{FunctionText}
 use Rattle.gim_names.specs.NamesFault.{names_fault}
 use Rattle.gim_shape.specs.Shape.{shape_fault}

@@ -18,7 +18,7 @@ use Rattle.gim_ast.specs.declared.function.Rhs.TheVariants as sides
 use Rattle.gim_ast.specs.declared.function.End.{End}
 use Rattle.gim_ast.specs.declared.function.End.TheVariants as ends
 use Rattle.gim_ast.specs.Functions.{operands_of, operands_of_block, operands_of_phi, operands_of_stmt, operands_of_rhs, operands_of_end, assigned, assigned_in, phi_name, stmt_name}
-use Rattle.gim_ast.specs.Printing.{assigned_text, type_of_name}
+use Rattle.gim_printer.specs.Printing.{assigned_text, type_of_name}
 use Rattle.gim_ast.specs.WellFormed.{ident_of, numbers_of}
 use Rattle.gim_text.specs.declared.tree.FunctionText.{FunctionText}
 use Rattle.gim_text.specs.declared.tree.DeclText.{DeclText}

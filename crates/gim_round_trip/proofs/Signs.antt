@@ -4,7 +4,7 @@ use Rattle.std.proofs.lemmas.Bool.{false≢true}
 use Rattle.pm_ops.specs.declared.code.Code.{Code}
 use Rattle.pm_ops.specs.declared.code.Code.TheVariants as operations
 use Rattle.pm_ops.specs.Codes.{is_comparison_code}
-use Rattle.gim_ast.specs.Printing.{sign_text}
+use Rattle.gim_printer.specs.Printing.{sign_text}
 use Rattle.gim_text.specs.declared.token.Mark.{Mark}
 use Rattle.gim_text.specs.declared.token.Mark.TheVariants as marks
 use Rattle.gim_text.specs.declared.token.Span.{Span}

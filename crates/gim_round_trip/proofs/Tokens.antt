@@ -6,7 +6,7 @@ use Rattle.std.proofs.lemmas.List.{append-nil}
 use Rattle.pm_ops.specs.declared.code.Code.{Code}
 use Rattle.pm_ops.specs.Codes.{is_comparison_code}
 use Rattle.gim_ast.specs.Identifiers.{is_word_text, is_number_text, is_identifier}
-use Rattle.gim_ast.specs.Printing.{sign_text}
+use Rattle.gim_printer.specs.Printing.{sign_text}
 use Rattle.gim_ast.proofs.NumberLemmas.{decimal_is_number_text}
 use Rattle.gim_text.specs.declared.token.Span.{Span}
 use Rattle.gim_text.specs.declared.token.Token.{Token}

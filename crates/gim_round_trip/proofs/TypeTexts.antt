@@ -5,7 +5,7 @@ use Rattle.std.proofs.lemmas.Bool.{eqb-true, false≢true}
 use Rattle.std.proofs.lemmas.List.{map-append}
 use Rattle.pm_wide.specs.Types.{Ty}
 use Rattle.gim_ast.specs.Identifiers.{is_word_text}
-use Rattle.gim_ast.specs.Printing.{type_text}
+use Rattle.gim_printer.specs.Printing.{type_text}
 use Rattle.gim_ast.specs.WellFormed.{is_type_of}
 use Rattle.gim_text.specs.declared.token.Span.{Span}
 use Rattle.gim_text.specs.declared.token.Token.{Token}

@@ -15,7 +15,7 @@ use Rattle.gim_ast.specs.declared.function.Rhs.TheVariants as sides
 use Rattle.gim_ast.specs.declared.function.End.{End}
 use Rattle.gim_ast.specs.declared.function.End.TheVariants as ends
 use Rattle.gim_ast.specs.Functions.{operands_of, operands_of_end}
-use Rattle.gim_ast.specs.Printing as printing
+use Rattle.gim_printer.specs.Printing as printing
 use Rattle.gim_ast.specs.WellFormed.{IsWellFormed, type_of, rhs_fits, end_fits}
 use Rattle.gim_text.specs.declared.fault.GimpleFault.{GimpleFault}
 use Rattle.gim_text.specs.declared.token.Span.{Span}

@@ -10,7 +10,7 @@ use Rattle.gim_ast.specs.declared.function.Decl.{Decl}
 use Rattle.gim_ast.specs.declared.function.NameRow.{NameRow}
 use Rattle.gim_ast.specs.Functions.{assigned}
 use Rattle.gim_ast.specs.Identifiers.{is_anonymous, anonymous}
-use Rattle.gim_ast.specs.Printing.{assigned_text}
+use Rattle.gim_printer.specs.Printing.{assigned_text}
 use Rattle.gim_ast.specs.WellFormed.{IsWellFormed, same_text, ident_of, declares_as, is_assigned}
 use Rattle.gim_text.specs.declared.tree.FunctionText.{FunctionText}
 use Rattle.gim_text.specs.declared.token.Span.{Span}

@@ -15,7 +15,8 @@ use Rattle.gim_ast.specs.declared.function.Rhs.{Rhs}
 use Rattle.gim_ast.specs.declared.function.Rhs.TheVariants as sides
 use Rattle.gim_ast.specs.declared.function.End.{End}
 use Rattle.gim_ast.specs.declared.function.End.TheVariants as ends
-use Rattle.gim_ast.specs.Printing.{assigned_text, is_initial, type_of_name}
+use Rattle.gim_printer.specs.Printing.{assigned_text, type_of_name}
+use Rattle.gim_ast.specs.Readable.{is_initial}
 use Rattle.gim_text.specs.declared.token.Span.{Span}
 use Rattle.gim_text.specs.declared.tree.FunctionText.{FunctionText}
 use Rattle.gim_text.specs.declared.tree.DeclText.{DeclText}

@@ -3,7 +3,7 @@ use Rattle.std.specs.Prelude.{ℕ, ◌≤◌, nat_lt, IsTrue, List, map, length}
 use Rattle.std.specs.List.{list_all, AllByRecursion}
 use Rattle.gim_ast.specs.declared.function.Function.{Function}
 use Rattle.gim_ast.specs.declared.function.NameRow.{NameRow}
-use Rattle.gim_ast.specs.Printing.{text}
+use Rattle.gim_printer.specs.Printing.{text}
 use Rattle.gim_ast.specs.WellFormed.{IsWellFormed, same_text, all_distinct, numbers_of}
 use Rattle.gim_reader.specs.Files.{file_limit}
 

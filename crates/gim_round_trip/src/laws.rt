@@ -2,7 +2,7 @@
 
 ghost use Rattle.std.specs.Prelude.{ℕ, ◌≤◌, List, length};
 ghost use Rattle.gim_ast.specs.declared.function.Function.{Function};
-ghost use Rattle.gim_ast.specs.Printing.{text};
+ghost use Rattle.gim_printer.specs.Printing.{text};
 ghost use Rattle.gim_reader.specs.Files.{IsFile, file_limit};
 ghost use Rattle.gim_round_trip.specs.ReadBack.{MayBeReadBack};
 

@@ -46,6 +46,7 @@ impl<'a> Indexed<'a> {
         })
     }
 
+    /// The function.
     pub(crate) fn function(&self) -> &Function
         ensures { result.now ≡ self.now }
     {

@@ -1,3 +1,4 @@
+//! A machine that runs a function again and again.
 ghost use Rattle.std.specs.Prelude.{◌≡◌, IfOk, IsTrue, length, map};
 ghost use Rattle.std.specs.List.{list_all};
 ghost use Rattle.gim_ast.specs.declared.function.NameRow.{NameRow};

@@ -1,3 +1,4 @@
+//! Runs, block by block.
 ghost use Rattle.std.specs.Prelude.{◌≡◌, ◌≤◌, length, IsTrue};
 ghost use Rattle.std.specs.List.{list_all};
 ghost use Rattle.gim_ast.specs.Runs.{entry_of, run_from, step_at, step_in};

@@ -1,3 +1,4 @@
+//! The words of names, one in the slot of each row.
 ghost use Rattle.std.specs.Prelude.{◌≡◌, ◌<◌, length, slice_index_or};
 ghost use Rattle.pm_wide.specs.Types.{bool_type};
 ghost use Rattle.gim_ast.specs.Runs.{assign, name_type, word_of_operand, zero_of};

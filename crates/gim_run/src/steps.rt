@@ -1,3 +1,4 @@
+//! One block: its phis, its statements and its end.
 ghost use Rattle.std.specs.Prelude.{◌≡◌, ◌≤◌, length, take, List, [], ◌∷◌, IsTrue, OnOk, OnErr, map};
 ghost use Rattle.std.specs.List.{list_all};
 ghost use Rattle.std.specs.Option.{ok_or};
@@ -40,6 +41,7 @@ fn operation(
     }
 }
 
+/// The value of an operation on one operand.
 fn one(
     function: &Indexed,
     slots: &[Wide],
@@ -55,6 +57,7 @@ fn one(
     op_value(code, ty, &[slots::word(function, slots, a)])
 }
 
+/// The value of an operation on two operands.
 fn two(
     function: &Indexed,
     slots: &[Wide],
@@ -73,6 +76,7 @@ fn two(
     op_value(code, ty, &[a, b])
 }
 
+/// The value of an operation on three operands.
 fn three(
     function: &Indexed,
     slots: &[Wide],

@@ -1,3 +1,4 @@
+//! Runs of small functions.
 mod samples;
 
 ghost use Rattle.std.specs.Prelude.{◌≡◌, ◌%◌, ◌^◌};
@@ -9,12 +10,14 @@ use pm_ops::Code;
 use pm_wide::{IntType, Operand, Wide};
 use std::test::Fail;
 
+/// A word of type unsigned int.
 fn unsigned(bits: u32) -> Wide
     ensures { result ≡ record { bits = bits; ty = unsigned_int_type } }
 {
     Wide::reduce(u128::from(bits), IntType::unsigned_int())
 }
 
+/// A word of type int.
 fn int(bits: u32) -> Wide
     ensures { result ≡ sample.int bits }
 {
@@ -47,6 +50,7 @@ fn phis_are_read_before_any_is_assigned(rt: HostRuntime) -> Result<(), Fail> {
     Ok(())
 }
 
+/// A block that leads to itself never ends.
 #[test]
 fn an_endless_block_is_running(rt: HostRuntime) -> Result<(), Fail> {
     let function = samples::endless(rt.alloc())?;
@@ -57,6 +61,7 @@ fn an_endless_block_is_running(rt: HostRuntime) -> Result<(), Fail> {
     Ok(())
 }
 
+/// The statement that has no value is named.
 #[test]
 #[tactic(auto, using(crate::proofs::SampleLemmas::by_zero_holds))]
 fn a_quotient_by_zero_is_undefined(rt: HostRuntime) -> Result<(), Fail> {
@@ -68,6 +73,7 @@ fn a_quotient_by_zero_is_undefined(rt: HostRuntime) -> Result<(), Fail> {
     Ok(())
 }
 
+/// So it is where nothing uses its name.
 #[test]
 #[tactic(auto, using(crate::proofs::SampleLemmas::by_zero_unused_holds))]
 fn a_quotient_by_zero_that_nothing_uses_is_undefined(rt: HostRuntime) -> Result<(), Fail> {
@@ -78,6 +84,7 @@ fn a_quotient_by_zero_that_nothing_uses_is_undefined(rt: HostRuntime) -> Result<
     Ok(())
 }
 
+/// A signed sum out of range has no value.
 #[test]
 #[tactic(auto, using(crate::proofs::SampleLemmas::too_great_holds))]
 fn a_sum_above_the_greatest_is_undefined(rt: HostRuntime) -> Result<(), Fail> {

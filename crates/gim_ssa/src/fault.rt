@@ -20,6 +20,7 @@ pub enum CheckFault {
 impl From<OutOfMemory> for CheckFault {
     ghost from_gives = { λ _ e. e ≡ Memory };
 
+    /// Want of memory, whatever wanted it.
     fn from(_error: OutOfMemory) -> CheckFault {
         CheckFault::Memory
     }

@@ -1,10 +1,6 @@
 //! What holds of readability. Each call here does nothing: its contract is a law, which its check proves.
 ghost use Rattle.std.specs.Prelude.{◌≡◌, ◌++◌, ◌↔◌, ℕ, Bool, false, Some, List};
-ghost use Rattle.pm_ops.specs.declared.code.Code.{Code};
-ghost use Rattle.pm_wide.specs.declared.operand.Operand.{Operand};
 ghost use Rattle.gim_ast.specs.declared.function.Function.{Function};
-ghost use Rattle.gim_ast.specs.declared.function.Rhs.{Rhs};
-ghost use Rattle.gim_ast.specs.Substitution.{put_in_all, with_rhs, with_condition};
 ghost use Rattle.gim_ast.specs.Paths.{Stretch, flow_of, stretch_at, Path};
 ghost use Rattle.gim_ast.specs.Readable.{read_for, is_initial, Supports, IsReadable, IsValid, IsFirstUnreadable};
 ghost use Rattle.gim_ast.specs.WellFormed.{is_among};
@@ -31,21 +27,6 @@ pub fn first_unreadable_is_one()
 /// A valid function has no first unreadable use.
 pub fn valid_has_no_first_unreadable()
     ensures { (f : Function) (n k x : ℕ) → IsValid f → IsFirstUnreadable f n k x → ⊥ }
-{}
-
-/// An operand that is put for a name leaves all that paths see of a function.
-pub fn substitution_keeps_flow()
-    ensures { (f : Function) (x : ℕ) (by : Operand) → flow_of (put_in_all x by f) ≡ flow_of f }
-{}
-
-/// So does another right side.
-pub fn right_side_keeps_flow()
-    ensures { (f : Function) (x : ℕ) (rhs : Rhs) → flow_of (with_rhs x rhs f) ≡ flow_of f }
-{}
-
-/// So does another condition.
-pub fn condition_keeps_flow()
-    ensures { (f : Function) (n : ℕ) (code : Code) (a b : Operand) → flow_of (with_condition n code a b f) ≡ flow_of f }
 {}
 
 /// Marks at the heads of blocks decide where a name is readable: it isn't in its own support, and each mark at the

@@ -16,6 +16,7 @@ pub struct Places {
 }
 
 impl Places {
+    /// The table of a list.
     pub fn new(alloc: Global, numbers: &[u32]) -> Result<Places, OutOfMemory>
         ensures { IfOk result (λ places. (q : ℕ) → place_in places q ≡ place_of numbers.now q) }
     {
@@ -54,6 +55,7 @@ pub struct Initials {
 }
 
 impl Initials {
+    /// The table of a list.
     pub fn new(alloc: Global, rows: &[NameRow]) -> Result<Initials, OutOfMemory>
         ensures { IfOk result (λ initials. (q : ℕ) → tells_initial initials q ≡ initial_among rows.now q) }
     {

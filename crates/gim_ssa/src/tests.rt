@@ -1,3 +1,4 @@
+//! Small functions, valid and not, and the first fault of each.
 ghost use Rattle.std.specs.Prelude.{◌≡◌, Bool, map, IfOk};
 ghost use Rattle.gim_ast.specs.WellFormed.{IsWellFormed};
 ghost use Rattle.gim_ssa.specs.Examples.{joined, looping, early, circular, unreached, re_entered, chosen};
@@ -10,6 +11,7 @@ use pm_ops::{Code, OutOfMemory, Text};
 use pm_wide::{IntType, Operand};
 use std::alloc::Global;
 
+/// A use of a name of type int.
 fn x(version: u32) -> Operand
     ensures { result ≡ x_of version }
 {
@@ -55,6 +57,7 @@ fn phis(alloc: Global, choices: &[(u32, (u32, u32), (u32, u32))]) -> Result<Item
     Ok(phis)
 }
 
+/// A block with phis and sums.
 fn block(
     alloc: Global,
     number: u32,
@@ -74,6 +77,7 @@ fn block(
     })
 }
 
+/// A row of `names`.
 fn row(alloc: Global, version: u32, initial: bool) -> Result<NameRow, OutOfMemory>
     ensures { IfOk result (λ row. row ≡ row_of_x version initial) }
 {
@@ -214,10 +218,12 @@ fn phi_of_another_block(alloc: Global) -> Result<Function, OutOfMemory>
     function(alloc, true, blocks)
 }
 
+/// The fault that names a use.
 fn not_readable(block: u32, item: u32, name: u32) -> Result<(), CheckFault> {
     Err(CheckFault::NotReadable { block, item, name })
 }
 
+/// The first use that is not readable is named.
 #[test]
 fn names_the_first_use_that_is_not_readable(rt: HostRuntime) -> Result<(), OutOfMemory> {
     let alloc = rt.alloc();
@@ -231,6 +237,7 @@ fn names_the_first_use_that_is_not_readable(rt: HostRuntime) -> Result<(), OutOf
     Ok(())
 }
 
+/// Valid functions pass.
 #[test]
 fn takes_valid_functions(rt: HostRuntime) -> Result<(), OutOfMemory> {
     let alloc = rt.alloc();
@@ -241,6 +248,7 @@ fn takes_valid_functions(rt: HostRuntime) -> Result<(), OutOfMemory> {
     Ok(())
 }
 
+/// A fault is told in words.
 #[test]
 fn faults_are_told(rt: HostRuntime) -> Result<(), OutOfMemory> {
     let fault = CheckFault::NotReadable {

@@ -6,9 +6,9 @@ use Rattle.std.specs.Prelude.{All, IsTrue, option_map, ℤ, cond}
 use Rattle.pm_wide.specs.Types.{Ty, Word, in_range, word}
 use Rattle.gim_ast.specs.declared.function.Function.{Function}
 use Rattle.gim_ast.specs.declared.function.Decl.{Decl}
-use Rattle.gim_ast.specs.Printing.{names_rise}
+use Rattle.gim_ast.specs.WellFormed.{names_rise}
 use Rattle.gim_ast.specs.Readable.{IsValid}
-use Rattle.gim_printer.proofs.WellFormedLemmas.{names_rise_where_well_formed}
+use Rattle.gim_ast.proofs.RisingNames.{names_rise_where_well_formed}
 use Rattle.gim_run.specs.Slots.{types_of_words}
 use Rattle.gim_run.specs.Arguments.{AreArguments}
 use Rattle.gim_text.specs.Literals.{word_in}

@@ -8,8 +8,7 @@ use Rattle.pm_wide.specs.Types.{same_type, unsigned_int_type}
 use Rattle.pm_wide.specs.Typing.{well_typed_operation}
 use Rattle.gim_ast.specs.declared.function.Function.{Function}
 use Rattle.gim_ast.specs.declared.function.NameRow.{NameRow}
-use Rattle.gim_ast.specs.Printing.{names_rise}
-use Rattle.gim_ast.specs.WellFormed.{type_of}
+use Rattle.gim_ast.specs.WellFormed.{type_of, names_rise}
 use Rattle.first_gimple.specs.declared.fault.FirstFault.{FirstFault}
 use Rattle.first_gimple.specs.declared.fault.FirstFault.TheVariants.{NotFirst, Memory}
 use Rattle.first_gimple.specs.declared.draft.Draft.{Draft}

@@ -5,12 +5,12 @@ use Rattle.std.specs.Option.{option_map_or}
 use Rattle.pm_wide.specs.declared.operand.Operand.{Operand}
 use Rattle.gim_ast.specs.declared.function.Function.{Function}
 use Rattle.gim_ast.specs.declared.function.NameRow.{NameRow}
-use Rattle.gim_ast.specs.Substitution.{put_in_all, with_rhs, with_condition}
-use Rattle.gim_ast.specs.Removal.{without, pruned_by, pruned, trimmed, tidied, last_unused, stands_in, is_empty_text}
-use Rattle.gim_ast.specs.Subjects.{Site, AtStmt, AtCond, Subject, View}
-use Rattle.gim_ast.specs.Rewriting.{Result, AsOperand, AsExchanged, Choice, Rewritten, changed, first_choice, stepped, rewritten_by, rewriting_of, firing_of, with_firing}
-use Rattle.gim_ast.specs.WellFormed.{rises}
-use Rattle.gim_ast.specs.Printing.{names_rise}
+use Rattle.gim_changes.specs.Substitution.{put_in_all, with_rhs, with_condition}
+use Rattle.gim_changes.specs.Removal.{without, pruned_by, pruned, last_unused}
+use Rattle.gim_changes.specs.Trimming.{trimmed, tidied, stands_in, is_empty_text}
+use Rattle.first_patterns.specs.Subjects.{Site, AtStmt, AtCond, Subject, View}
+use Rattle.first_rewriting.specs.Rewriting.{Result, AsOperand, AsExchanged, Choice, Rewritten, changed, first_choice, stepped, rewritten_by, rewriting_of, firing_of, with_firing}
+use Rattle.gim_ast.specs.WellFormed.{rises, names_rise}
 
 both : (a b : Bool) → a ≡ true → b ≡ true → (a && b) ≡ true
 both true b p q = q

@@ -4,9 +4,9 @@ use Rattle.std.specs.Prelude.{nat_le}
 use Rattle.std.specs.List.{AllByRecursion}
 use Rattle.std.proofs.lemmas.Bool.{le-leb}
 use Rattle.gim_ast.specs.declared.function.Function.{Function}
-use Rattle.gim_ast.specs.Printing.{text}
+use Rattle.gim_printer.specs.Printing.{text}
 use Rattle.gim_ast.specs.Readable.{IsValid, IsFirstUnreadable}
-use Rattle.gim_ast.proofs.FlowLemmas.{first_is_one, valid_has_no_first}
+use Rattle.gim_ast.proofs.FirstUnreadable.{first_is_one, valid_has_no_first}
 use Rattle.gim_reader.specs.Files.{IsFile}
 use Rattle.gim_reader.proofs.OneAnswer.{one_list, no_fault, one_fault}
 use Rattle.gim_round_trip.specs.ReadBack.{MayBeReadBack}

@@ -1,7 +1,7 @@
 -- Each status has its cause in the files that the inputs hold.
 use Rattle.std.proofs.Common.{◌≡◌, ◌⊎◌, ℕ, ◌≤◌, ◌<◌, Bool, true, false, cond, List, length, Option, Some, None, IfSome, IsSomeAnd, refl, sym, ap, subst, ◌∙◌, inl, inr, arith}
 use Rattle.gim_ast.specs.declared.function.Function.{Function}
-use Rattle.gim_ast.specs.Rewriting.{rewriting_of}
+use Rattle.first_rewriting.specs.Rewriting.{rewriting_of}
 use Rattle.first_patterns.specs.declared.row.Row.{Row}
 use Rattle.first_patterns.specs.FirstForm.{SpellsFile}
 use Rattle.first_patterns.specs.Matching.{row_at}

@@ -1,8 +1,8 @@
 -- What the program answers: a status, and what it writes to `out` and to `report`.
 use Rattle.std.specs.Prelude.{◌≡◌, ◌⊎◌, ℕ, ◌<◌, ◌≤◌, if◌then◌else◌, List, [], ◌∷◌, ◌++◌, length, Option, Some, None, IsSomeAnd, codes, ⊤}
 use Rattle.gim_ast.specs.declared.function.Function.{Function}
-use Rattle.gim_ast.specs.Printing.{text}
-use Rattle.gim_ast.specs.Rewriting.{Rewritten, rewriting_of}
+use Rattle.gim_printer.specs.Printing.{text}
+use Rattle.first_rewriting.specs.Rewriting.{Rewritten, rewriting_of}
 use Rattle.first_patterns.specs.declared.row.Row.{Row}
 use Rattle.first_patterns.specs.FirstForm.{SpellsFile}
 use Rattle.first_patterns.specs.Matching.{row_at}

@@ -3,7 +3,7 @@ use Rattle.std.specs.Prelude.{◌≡◌, ℕ, min, Bool, true, false, if◌then�
 use Rattle.std.specs.List.{AllByRecursion}
 use Rattle.pm_places.specs.Places.{line_of, column_of}
 use Rattle.gim_ast.specs.declared.function.Function.{Function}
-use Rattle.gim_ast.specs.Printing.{assigned_text}
+use Rattle.gim_printer.specs.Printing.{assigned_text}
 use Rattle.gim_ast.specs.Readable.{IsValid, IsFirstUnreadable}
 use Rattle.gim_text.specs.declared.fault.GimpleFault.{GimpleFault}
 use Rattle.gim_text.specs.declared.fault.GimpleKind.{GimpleKind}

@@ -2,9 +2,9 @@
 use Rattle.std.specs.Prelude.{ℕ, ◌-◌, if◌then◌else◌, List, [], ◌∷◌, ◌++◌, codes, decimal, slice_get}
 use Rattle.std.specs.List.{flat_map}
 use Rattle.std.specs.Option.{option_map_or}
-use Rattle.gim_ast.specs.Printing.{name_text}
-use Rattle.gim_ast.specs.Subjects.{Site, AtStmt, AtCond}
-use Rattle.gim_ast.specs.Rewriting.{What, IsCopy, IsSwap, IsFold, IsRow, Firing, Rewritten}
+use Rattle.gim_printer.specs.Printing.{name_text}
+use Rattle.first_patterns.specs.Subjects.{Site, AtStmt, AtCond}
+use Rattle.first_rewriting.specs.Rewriting.{What, IsCopy, IsSwap, IsFold, IsRow, Firing, Rewritten}
 use Rattle.first_patterns.specs.declared.row.Row.{Row}
 use Rattle.pm_places.specs.Places.{line_of, column_of}
 

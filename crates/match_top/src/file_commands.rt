@@ -1,7 +1,7 @@
 //! `check G` and `run G F V..` over any inputs.
 ghost use Rattle.std.specs.Prelude.{◌≡◌, ◌≤◌, ◌++◌, [], ℕ, List, codes, IfOk, IfSome, map, option_map, option_copied, string_bytes};
 ghost use Rattle.std.specs.List.{AllByRecursion};
-ghost use Rattle.gim_ast.specs.Printing.{assigned_text};
+ghost use Rattle.gim_printer.specs.Printing.{assigned_text};
 ghost use Rattle.gim_ast.specs.Readable.{IsValid};
 ghost use Rattle.gim_ast.specs.Runs.{run_of};
 ghost use Rattle.gim_run.specs.Arguments.{AreArguments};

@@ -110,7 +110,7 @@ pub fn unreadable(alloc: Global, function: &Function, block: u32, item: u32, nam
 }
 
 /// The line of a use that is not readable.
-#[tactic(auto, using(gim_printer::proofs::WellFormedLemmas::names_rise_where_well_formed))]
+#[tactic(auto, using(gim_ast::proofs::RisingNames::names_rise_where_well_formed))]
 fn unreadable_line(
     alloc: Global,
     function: &Function,

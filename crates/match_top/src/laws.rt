@@ -3,7 +3,7 @@
 ghost use Rattle.std.specs.Prelude.{◌≡◌, ◌⊎◌, ◌≤◌, ℕ, List, Option, Some, length};
 ghost use Rattle.std.specs.List.{AllByRecursion};
 ghost use Rattle.gim_ast.specs.declared.function.Function.{Function};
-ghost use Rattle.gim_ast.specs.Printing.{text};
+ghost use Rattle.gim_printer.specs.Printing.{text};
 ghost use Rattle.gim_ast.specs.Readable.{IsValid};
 ghost use Rattle.gim_round_trip.specs.ReadBack.{MayBeReadBack};
 ghost use Rattle.match_top.specs.Answers.{Answer, Given, no_memory, functions_limit};

@@ -1,7 +1,7 @@
 //! `simplify P G` over any inputs.
 ghost use Rattle.std.specs.Prelude.{◌≡◌, ◌≤◌, ◌<◌, ◌^◌, length, IfSome, string_bytes};
 ghost use Rattle.first_patterns.specs.FirstForm.{SpellsFile};
-ghost use Rattle.gim_ast.specs.Printing.{names_rise};
+ghost use Rattle.gim_ast.specs.WellFormed.{names_rise};
 ghost use Rattle.first_rewriting.specs.Typed.{IsTyped};
 ghost use Rattle.match_top.specs.Answers.{Given, Simplifies, ReadsNext, OrMemory, simplified};
 ghost use Rattle.match_top.specs.Given.{FilesAgree, FunctionsAgree, HasReason};

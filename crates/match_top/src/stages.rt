@@ -1,6 +1,7 @@
 //! The stages of `simplify`: the pattern file, the GIMPLE file, the rewriting.
 ghost use Rattle.std.specs.Prelude.{◌≡◌, ◌⊎◌, ℕ, List, [], ◌∷◌, if◌then◌else◌, ◌<◌, ◌≤◌, ◌^◌, length, All, IfOk, IsTrue};
-ghost use Rattle.gim_ast.specs.Printing.{names_rise, text};
+ghost use Rattle.gim_ast.specs.WellFormed.{names_rise};
+ghost use Rattle.gim_printer.specs.Printing.{text};
 ghost use Rattle.first_patterns.specs.FirstForm.{SpellsFile};
 ghost use Rattle.first_gimple.specs.Meaning.{IsFirstForm};
 ghost use Rattle.first_rewriting.specs.Typed.{IsTyped};

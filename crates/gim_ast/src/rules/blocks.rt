@@ -3,11 +3,12 @@
 ghost use Rattle.std.specs.Prelude.{◌≡◌};
 ghost use Rattle.std.specs.List.{list_all, list_any};
 ghost use Rattle.gim_ast.specs.WellFormed.{is_empty, entry_has_no_phi};
-ghost use Rattle.gim_ast.specs.Parts.{has_number, distinct_numbers, stays_in, jumps_stay_in, leads_to, is_way, comes_from, distinct_args, arg_has_way, way_has_arg, phi_by_part, phis_by_part, blocks_by_part};
+ghost use Rattle.gim_ast.specs.RulesByPart.{has_number, distinct_numbers, stays_in, jumps_stay_in, leads_to, is_way, comes_from, distinct_args, arg_has_way, way_has_arg, phi_by_part, phis_by_part, blocks_by_part};
 
 use crate::{Block, End, Function, Phi};
 use pm_wide::Operand;
 
+/// Whether there are no phis.
 fn no_phis(phis: &[Phi]) -> bool
     ensures { result ≡ is_empty phis.now }
 {
@@ -17,6 +18,7 @@ fn no_phis(phis: &[Phi]) -> bool
     }
 }
 
+/// Whether there are no arguments.
 fn no_args(args: &[(u32, Operand)]) -> bool
     ensures { result ≡ is_empty args.now }
 {
@@ -26,6 +28,7 @@ fn no_args(args: &[(u32, Operand)]) -> bool
     }
 }
 
+/// Whether there is an entry, without phis.
 fn entry_has_no_phi(blocks: &[Block]) -> bool
     ensures { result ≡ entry_has_no_phi blocks.now }
 {
@@ -35,6 +38,7 @@ fn entry_has_no_phi(blocks: &[Block]) -> bool
     }
 }
 
+/// Whether a block has the number.
 fn have_number(blocks: &[Block], number: u32) -> bool
     ensures { result ≡ list_any (has_number number) blocks.now }
 {
@@ -68,6 +72,7 @@ fn stays_in(blocks: &[Block], end: &End) -> bool
     }
 }
 
+/// Whether each jump leads to a block.
 fn jumps_stay(blocks: &[Block]) -> bool
     ensures { result ≡ list_all (jumps_stay_in blocks.now) blocks.now }
 {
@@ -85,18 +90,21 @@ fn leads_to(end: &End, number: u32) -> bool
     }
 }
 
+/// Whether the block is that of number `from` and jumps to the block of number `to`.
 fn is_way(block: &Block, from: u32, to: u32) -> bool
     ensures { result ≡ is_way from to block.now }
 {
     leads_to(&block.end, to) && block.number == from
 }
 
+/// Whether the block of number `from` jumps to that of number `to`.
 fn have_way(blocks: &[Block], from: u32, to: u32) -> bool
     ensures { result ≡ list_any (is_way from to) blocks.now }
 {
     blocks.iter().any(|block| is_way(block, from, to))
 }
 
+/// Whether an argument comes from the block of that number.
 fn any_comes_from(args: &[(u32, Operand)], from: u32) -> bool
     ensures { result ≡ list_any (comes_from from) args.now }
 {
@@ -117,12 +125,14 @@ fn distinct_args(args: &[(u32, Operand)]) -> bool
     true
 }
 
+/// Whether each argument comes from a block that jumps to the block of that number.
 fn args_have_ways(blocks: &[Block], number: u32, args: &[(u32, Operand)]) -> bool
     ensures { result ≡ list_all (arg_has_way blocks.now number) args.now }
 {
     args.iter().all(|arg| have_way(blocks, arg.0, number))
 }
 
+/// Whether the block has an argument, if it jumps to the block of that number.
 fn way_has_arg(args: &[(u32, Operand)], number: u32, block: &Block) -> bool
     ensures { result ≡ way_has_arg args.now number block.now }
 {
@@ -133,6 +143,7 @@ fn way_has_arg(args: &[(u32, Operand)], number: u32, block: &Block) -> bool
     }
 }
 
+/// Whether each block that jumps to the block of that number has an argument.
 fn ways_have_args(args: &[(u32, Operand)], number: u32, blocks: &[Block]) -> bool
     ensures { result ≡ list_all (way_has_arg args.now number) blocks.now }
 {
@@ -150,12 +161,14 @@ fn phi_holds(blocks: &[Block], number: u32, phi: &Phi) -> bool
         && !no_args(args)
 }
 
+/// Whether each phi of the block of that number keeps the rule.
 fn phis_hold(blocks: &[Block], number: u32, phis: &[Phi]) -> bool
     ensures { result ≡ list_all (phi_by_part blocks.now number) phis.now }
 {
     phis.iter().all(|phi| phi_holds(blocks, number, phi))
 }
 
+/// Whether each phi keeps the rule.
 fn all_phis_hold(blocks: &[Block]) -> bool
     ensures { result ≡ list_all (phis_by_part blocks.now) blocks.now }
 {

@@ -2,7 +2,7 @@
 
 ghost use Rattle.std.specs.Prelude.{◌≡◌, length};
 ghost use Rattle.gim_ast.specs.Functions.{operands_of_rhs, operands_of_end};
-ghost use Rattle.gim_ast.specs.Parts.{count_in_phis, count_in_stmts, count_in_block, count_in_blocks, bounds_by_part};
+ghost use Rattle.gim_ast.specs.RulesByPart.{count_in_phis, count_in_stmts, count_in_block, count_in_blocks, bounds_by_part};
 
 use crate::{Block, End, Function, Phi, Rhs, Stmt};
 
@@ -20,6 +20,7 @@ fn count_in_phis(count: usize, phis: &[Phi]) -> usize
     total
 }
 
+/// How many operands a right side has.
 fn rhs_len(rhs: &Rhs) -> usize
     ensures { result ≡ length (operands_of_rhs rhs.now) }
 {
@@ -40,6 +41,7 @@ fn count_in_stmts(count: usize, stmts: &[Stmt]) -> usize
     total
 }
 
+/// How many operands an end has.
 fn end_len(end: &End) -> usize
     ensures { result ≡ length (operands_of_end end.now) }
 {
@@ -50,6 +52,7 @@ fn end_len(end: &End) -> usize
     }
 }
 
+/// The count with the operand places of the block, up to the greatest number.
 fn count_in_block(count: usize, block: &Block) -> usize
     ensures { result ≡ count_in_block count block.now }
 {

@@ -3,24 +3,27 @@
 ghost use Rattle.std.specs.Prelude.{◌≡◌};
 ghost use Rattle.std.specs.List.{list_all, list_any};
 ghost use Rattle.gim_ast.specs.WellFormed.{is_type_of};
-ghost use Rattle.gim_ast.specs.Parts.{has_identifier, has_anonymous, has_ident, has_type, distinct_idents, declarations_by_part, types_by_part};
+ghost use Rattle.gim_ast.specs.RulesByPart.{has_identifier, has_anonymous, has_ident, has_type, distinct_idents, declarations_by_part, types_by_part};
 
 use crate::rules::identifiers::{is_anonymous, is_identifier, same_text};
 use crate::{Decl, Function};
 use pm_wide::IntType;
 
+/// Whether each is declared by an identifier.
 fn are_identifiers(decls: &[Decl]) -> bool
     ensures { result ≡ list_all has_identifier decls.now }
 {
     decls.iter().all(|decl| is_identifier(decl.ident.bytes()))
 }
 
+/// Whether one is declared as an anonymous name.
 fn any_anonymous(decls: &[Decl]) -> bool
     ensures { result ≡ list_any has_anonymous decls.now }
 {
     decls.iter().any(|decl| is_anonymous(decl.ident.bytes()))
 }
 
+/// Whether one has the identifier.
 fn has_ident(decls: &[Decl], ident: &[u8]) -> bool
     ensures { result ≡ list_any (has_ident ident.now) decls.now }
 {
@@ -65,6 +68,7 @@ pub(crate) fn is_type(ty: IntType) -> bool
     true
 }
 
+/// Whether each has one of the eleven types.
 fn have_types(decls: &[Decl]) -> bool
     ensures { result ≡ list_all has_type decls.now }
 {

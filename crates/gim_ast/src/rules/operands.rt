@@ -7,12 +7,13 @@ ghost use Rattle.pm_wide.specs.Types.{same_type};
 ghost use Rattle.pm_wide.specs.Typing.{well_typed_operation};
 ghost use Rattle.gim_ast.specs.Functions.{row_of, operands_of_rhs, operands_of_end};
 ghost use Rattle.gim_ast.specs.WellFormed.{type_of, is_word, operand_holds, rhs_fits, stmt_fits, phi_fits, end_fits, block_fits};
-ghost use Rattle.gim_ast.specs.Parts.{arg_holds, phi_operands_hold, stmt_operands_hold, block_operands_hold, arg_fits, row_is, operands_by_part};
+ghost use Rattle.gim_ast.specs.RulesByPart.{arg_holds, phi_operands_hold, stmt_operands_hold, block_operands_hold, arg_fits, row_is, operands_by_part};
 
 use crate::{Block, End, Function, NameRow, Phi, Rhs, Stmt};
 use pm_ops::Code;
 use pm_wide::{IntType, Operand, Wide, well_typed};
 
+/// The first row of a version.
 fn row_among(rows: &[NameRow], version: u32) -> Option<&NameRow>
     ensures { option_copied result ≡ find (row_is version) rows.now }
 {
@@ -20,19 +21,21 @@ fn row_among(rows: &[NameRow], version: u32) -> Option<&NameRow>
 }
 
 /// The row of a version.
-#[tactic(auto, using(crate::proofs::Search::row_by_find))]
+#[tactic(auto, using(crate::proofs::RowSearch::row_by_find))]
 fn name_row(function: &Function, version: u32) -> Option<&NameRow>
     ensures { option_copied result ≡ row_of function.now version }
 {
     row_among(function.names.as_slice(), version)
 }
 
-fn same_type(left: IntType, right: IntType) -> bool
+/// Whether the two types are one.
+pub(crate) fn same_type(left: IntType, right: IntType) -> bool
     ensures { result ≡ same_type left right }
 {
     left == right
 }
 
+/// The type of an operand.
 fn type_of(operand: &Operand) -> IntType
     ensures { result ≡ type_of operand.now }
 {
@@ -50,6 +53,7 @@ fn is_word(word: Wide) -> bool
     true
 }
 
+/// Whether a name has the type of its row, and a constant is a word of its type.
 fn operand_holds(function: &Function, operand: &Operand) -> bool
     ensures { result ≡ operand_holds function.now operand.now }
 {
@@ -62,6 +66,7 @@ fn operand_holds(function: &Function, operand: &Operand) -> bool
     }
 }
 
+/// Whether each of the operands holds.
 fn are_operands(function: &Function, operands: &[Operand]) -> bool
     ensures { result ≡ list_all (operand_holds function.now) operands.now }
 {
@@ -70,12 +75,14 @@ fn are_operands(function: &Function, operands: &[Operand]) -> bool
         .all(|operand| operand_holds(function, operand))
 }
 
+/// Whether each argument's operand holds.
 fn args_hold(function: &Function, args: &[(u32, Operand)]) -> bool
     ensures { result ≡ list_all (arg_holds function.now) args.now }
 {
     args.iter().all(|arg| operand_holds(function, &arg.1))
 }
 
+/// Whether each operand of the phis holds.
 fn phi_operands_hold(function: &Function, phis: &[Phi]) -> bool
     ensures { result ≡ list_all (phi_operands_hold function.now) phis.now }
 {
@@ -83,6 +90,7 @@ fn phi_operands_hold(function: &Function, phis: &[Phi]) -> bool
         .all(|phi| args_hold(function, phi.args.as_slice()))
 }
 
+/// Whether each operand of a right side holds.
 fn rhs_operands_hold(function: &Function, rhs: &Rhs) -> bool
     ensures { result ≡ list_all (operand_holds function.now) (operands_of_rhs rhs.now) }
 {
@@ -92,6 +100,7 @@ fn rhs_operands_hold(function: &Function, rhs: &Rhs) -> bool
     }
 }
 
+/// Whether each operand of the statements holds.
 fn stmt_operands_hold(function: &Function, stmts: &[Stmt]) -> bool
     ensures { result ≡ list_all (stmt_operands_hold function.now) stmts.now }
 {
@@ -100,6 +109,7 @@ fn stmt_operands_hold(function: &Function, stmts: &[Stmt]) -> bool
         .all(|stmt| rhs_operands_hold(function, &stmt.rhs))
 }
 
+/// Whether each operand of an end holds.
 fn end_operands_hold(function: &Function, end: &End) -> bool
     ensures { result ≡ list_all (operand_holds function.now) (operands_of_end end.now) }
 {
@@ -112,6 +122,7 @@ fn end_operands_hold(function: &Function, end: &End) -> bool
     }
 }
 
+/// Whether each operand of a block holds.
 fn block_operands_hold(function: &Function, block: &Block) -> bool
     ensures { result ≡ block_operands_hold function.now block.now }
 {
@@ -120,6 +131,7 @@ fn block_operands_hold(function: &Function, block: &Block) -> bool
         && end_operands_hold(function, &block.end)
 }
 
+/// Whether each operand of the blocks holds.
 fn all_operands_hold(function: &Function, blocks: &[Block]) -> bool
     ensures { result ≡ list_all (block_operands_hold function.now) blocks.now }
 {
@@ -141,6 +153,7 @@ fn operation_fits(code: Code, ty: IntType, operands: &[Operand]) -> bool
     }
 }
 
+/// Whether a right side has that type.
 fn rhs_fits(ty: IntType, rhs: &Rhs) -> bool
     ensures { result ≡ rhs_fits ty rhs.now }
 {
@@ -150,6 +163,7 @@ fn rhs_fits(ty: IntType, rhs: &Rhs) -> bool
     }
 }
 
+/// Whether a statement's right side has the type of its name.
 fn stmt_fits(function: &Function, stmt: &Stmt) -> bool
     ensures { result ≡ stmt_fits function.now stmt.now }
 {
@@ -159,18 +173,21 @@ fn stmt_fits(function: &Function, stmt: &Stmt) -> bool
     }
 }
 
+/// Whether each statement fits.
 fn stmts_fit(function: &Function, stmts: &[Stmt]) -> bool
     ensures { result ≡ list_all (stmt_fits function.now) stmts.now }
 {
     stmts.iter().all(|stmt| stmt_fits(function, stmt))
 }
 
+/// Whether each argument has that type.
 fn args_fit(ty: IntType, args: &[(u32, Operand)]) -> bool
     ensures { result ≡ list_all (arg_fits ty) args.now }
 {
     args.iter().all(|arg| same_type(type_of(&arg.1), ty))
 }
 
+/// Whether a phi's arguments have the type of its name.
 fn phi_fits(function: &Function, phi: &Phi) -> bool
     ensures { result ≡ phi_fits function.now phi.now }
 {
@@ -180,12 +197,14 @@ fn phi_fits(function: &Function, phi: &Phi) -> bool
     }
 }
 
+/// Whether each phi fits.
 fn phis_fit(function: &Function, phis: &[Phi]) -> bool
     ensures { result ≡ list_all (phi_fits function.now) phis.now }
 {
     phis.iter().all(|phi| phi_fits(function, phi))
 }
 
+/// Whether a condition compares operands of one type, and what is returned has the type of the function.
 fn end_fits(function: &Function, end: &End) -> bool
     ensures { result ≡ end_fits function.now end.now }
 {
@@ -198,6 +217,7 @@ fn end_fits(function: &Function, end: &End) -> bool
     }
 }
 
+/// Whether the phis, the statements and the end of a block fit.
 fn block_fits(function: &Function, block: &Block) -> bool
     ensures { result ≡ block_fits function.now block.now }
 {
@@ -206,6 +226,7 @@ fn block_fits(function: &Function, block: &Block) -> bool
         && end_fits(function, &block.end)
 }
 
+/// Whether each block fits.
 fn blocks_fit(function: &Function, blocks: &[Block]) -> bool
     ensures { result ≡ list_all (block_fits function.now) blocks.now }
 {

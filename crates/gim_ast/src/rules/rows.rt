@@ -5,13 +5,15 @@ ghost use Rattle.std.specs.List.{list_all, list_any};
 ghost use Rattle.pm_wide.specs.Types.{same_type};
 ghost use Rattle.gim_ast.specs.Identifiers.{anonymous};
 ghost use Rattle.gim_ast.specs.WellFormed.{same_text, declares_as, base_holds};
-ghost use Rattle.gim_ast.specs.Parts.{is_later, rows_rise, is_initial_of, is_last_initial, distinct_initials, local_base_holds, is_idle, row_stands_in, row_holds, is_row_of, local_holds, names_by_part};
+ghost use Rattle.gim_ast.specs.RulesByPart.{is_later, rows_rise, is_initial_of, is_last_initial, distinct_initials, local_base_holds, is_idle, row_stands_in, row_holds, is_row_of, local_holds, names_by_part};
 
 use crate::rules::identifiers::{anonymous_is, is_anonymous, is_anonymous_of, is_empty, same_text};
+use crate::rules::operands::same_type;
 use crate::rules::uses::{are_assigning, are_using, distinct_names};
 use crate::{Block, Decl, Function, NameRow};
 use pm_wide::IntType;
 
+/// Whether each row has a greater version.
 fn are_later(rows: &[NameRow], version: u32) -> bool
     ensures { result ≡ list_all (is_later version) rows.now }
 {
@@ -32,12 +34,7 @@ fn rows_rise(rows: &[NameRow]) -> bool
     true
 }
 
-fn same_type(left: IntType, right: IntType) -> bool
-    ensures { result ≡ same_type left right }
-{
-    left == right
-}
-
+/// Whether the declaration is of that identifier and that type.
 fn is_declaration(decl: &Decl, ident: &[u8], ty: IntType) -> bool
     ensures { result ≡ (same_text decl.now.ident ident.now && same_type decl.now.ty ty) }
 {
@@ -51,6 +48,7 @@ fn declares_as(decls: &[Decl], ident: &[u8], ty: IntType) -> bool
     decls.iter().any(|decl| is_declaration(decl, ident, ty))
 }
 
+/// Whether the declaration is of the anonymous name of the version, with that type.
 fn is_declaration_of(decl: &Decl, version: u32, ty: IntType) -> bool
     ensures { result ≡ (same_text decl.now.ident (anonymous version) && same_type decl.now.ty ty) }
 {
@@ -66,6 +64,7 @@ fn declares_anonymous(decls: &[Decl], version: u32, ty: IntType) -> bool
         .any(|decl| is_declaration_of(decl, version, ty))
 }
 
+/// Whether the row's base is a local of its type, and the row no default definition.
 fn local_base_holds(function: &Function, row: &NameRow) -> bool
     ensures { result ≡ local_base_holds function.now row.now }
 {
@@ -83,6 +82,7 @@ fn base_holds(function: &Function, row: &NameRow) -> bool
         || local_base_holds(function, row)
 }
 
+/// Whether the row is of an anonymous name that no block uses.
 fn is_idle(blocks: &[Block], row: &NameRow) -> bool
     ensures { result ≡ is_idle blocks.now row.now }
 {
@@ -100,30 +100,35 @@ fn row_stands(blocks: &[Block], row: &NameRow) -> bool
     assigned || is_idle(blocks, row)
 }
 
+/// Whether the row's base is declared, and its name assigned and used, as they must be.
 fn row_holds(function: &Function, row: &NameRow) -> bool
     ensures { result ≡ row_holds function.now row.now }
 {
     base_holds(function, row) && row_stands(function.blocks.as_slice(), row)
 }
 
+/// Whether each row holds.
 fn rows_hold(function: &Function, rows: &[NameRow]) -> bool
     ensures { result ≡ list_all (row_holds function.now) rows.now }
 {
     rows.iter().all(|row| row_holds(function, row))
 }
 
+/// Whether the row is a default definition of that base.
 fn is_initial_of(row: &NameRow, base: &[u8]) -> bool
     ensures { result ≡ is_initial_of base.now row.now }
 {
     row.initial && same_text(base, row.base.bytes())
 }
 
+/// Whether a row is a default definition of that base.
 fn any_initial_of(rows: &[NameRow], base: &[u8]) -> bool
     ensures { result ≡ list_any (is_initial_of base.now) rows.now }
 {
     rows.iter().any(|row| is_initial_of(row, base))
 }
 
+/// Whether no later row is a default definition of the same base, if this row is one.
 fn is_last_initial(row: &NameRow, after: &[NameRow]) -> bool
     ensures { result ≡ is_last_initial row.now after.now }
 {
@@ -148,24 +153,28 @@ fn distinct_initials(rows: &[NameRow]) -> bool
     true
 }
 
+/// Whether the row is that of the anonymous name.
 fn is_row_of(row: &NameRow, ident: &[u8]) -> bool
     ensures { result ≡ is_row_of ident.now row.now }
 {
     is_empty(row.base.bytes()) && anonymous_is(row.version, ident)
 }
 
+/// Whether a row is that of the anonymous name.
 fn have_row_of(rows: &[NameRow], ident: &[u8]) -> bool
     ensures { result ≡ list_any (is_row_of ident.now) rows.now }
 {
     rows.iter().any(|row| is_row_of(row, ident))
 }
 
+/// Whether the local has its row, if it is an anonymous name.
 fn local_holds(rows: &[NameRow], decl: &Decl) -> bool
     ensures { result ≡ local_holds rows.now decl.now }
 {
     !is_anonymous(decl.ident.bytes()) || have_row_of(rows, decl.ident.bytes())
 }
 
+/// Whether each local that is an anonymous name has its row.
 fn locals_hold(rows: &[NameRow], decls: &[Decl]) -> bool
     ensures { result ≡ list_all (local_holds rows.now) decls.now }
 {

@@ -2,12 +2,32 @@
 
 ghost use Rattle.std.specs.Prelude.{◌≡◌, ◌||◌};
 ghost use Rattle.std.specs.List.{list_any};
-ghost use Rattle.gim_ast.specs.Functions.{is_name, operands_of_rhs, operands_of_end};
-ghost use Rattle.gim_ast.specs.Parts.{arg_is, uses_in_phi, uses_in_stmt, uses_in_block, phi_assigns, stmt_assigns, block_assigns, distinct_phis, distinct_stmts, distinct_names, is_new, is_apart};
+ghost use Rattle.gim_ast.specs.Functions.{is_name, is_used, operands_of_rhs, operands_of_end};
+ghost use Rattle.gim_ast.specs.WellFormed.{is_assigned};
+ghost use Rattle.gim_ast.specs.RulesByPart.{arg_is, uses_in_phi, uses_in_stmt, uses_in_block, phi_assigns, stmt_assigns, block_assigns, distinct_phis, distinct_stmts, distinct_names, is_new, is_apart};
 
-use crate::{Block, End, Phi, Rhs, Stmt};
+use crate::{Block, End, Function, Phi, Rhs, Stmt};
 use pm_wide::Operand;
 
+impl Function {
+    /// Whether some operand of the function is the name. Takes no memory.
+    #[tactic(auto, using(crate::proofs::NameParts::used_by_block))]
+    pub fn uses(&self, name: u32) -> bool
+        ensures { result ≡ is_used self.now name }
+    {
+        are_using(self.blocks.as_slice(), name)
+    }
+
+    /// Whether a phi or a statement assigns the name. Takes no memory.
+    #[tactic(auto, using(crate::proofs::NameParts::assigned_by_block))]
+    pub fn assigns(&self, name: u32) -> bool
+        ensures { result ≡ is_assigned self.now name }
+    {
+        are_assigning(self.blocks.as_slice(), name)
+    }
+}
+
+/// Whether the operand is the name.
 fn is_name(operand: &Operand, name: u32) -> bool
     ensures { result ≡ is_name name operand.now }
 {
@@ -17,24 +37,28 @@ fn is_name(operand: &Operand, name: u32) -> bool
     }
 }
 
+/// Whether one of the operands is the name.
 fn any_is_name(operands: &[Operand], name: u32) -> bool
     ensures { result ≡ list_any (is_name name) operands.now }
 {
     operands.iter().any(|operand| is_name(operand, name))
 }
 
+/// Whether an argument is the name.
 fn any_arg_is(args: &[(u32, Operand)], name: u32) -> bool
     ensures { result ≡ list_any (arg_is name) args.now }
 {
     args.iter().any(|arg| is_name(&arg.1, name))
 }
 
+/// Whether one of the phis uses the name.
 fn any_phi_uses(phis: &[Phi], name: u32) -> bool
     ensures { result ≡ list_any (uses_in_phi name) phis.now }
 {
     phis.iter().any(|phi| any_arg_is(phi.args.as_slice(), name))
 }
 
+/// Whether a right side uses the name.
 fn rhs_uses(rhs: &Rhs, name: u32) -> bool
     ensures { result ≡ list_any (is_name name) (operands_of_rhs rhs.now) }
 {
@@ -44,12 +68,14 @@ fn rhs_uses(rhs: &Rhs, name: u32) -> bool
     }
 }
 
+/// Whether one of the statements uses the name.
 fn any_stmt_uses(stmts: &[Stmt], name: u32) -> bool
     ensures { result ≡ list_any (uses_in_stmt name) stmts.now }
 {
     stmts.iter().any(|stmt| rhs_uses(&stmt.rhs, name))
 }
 
+/// Whether an end uses the name.
 fn end_uses(end: &End, name: u32) -> bool
     ensures { result ≡ list_any (is_name name) (operands_of_end end.now) }
 {
@@ -60,12 +86,14 @@ fn end_uses(end: &End, name: u32) -> bool
     }
 }
 
+/// Whether a phi or a statement of the block uses the name.
 fn body_uses(block: &Block, name: u32) -> bool
     ensures { result ≡ (list_any (uses_in_phi name) block.now.phis || list_any (uses_in_stmt name) block.now.stmts) }
 {
     any_phi_uses(block.phis.as_slice(), name) || any_stmt_uses(block.stmts.as_slice(), name)
 }
 
+/// Whether the block uses the name.
 fn block_uses(block: &Block, name: u32) -> bool
     ensures { result ≡ uses_in_block name block.now }
 {
@@ -81,18 +109,21 @@ pub(crate) fn are_using(blocks: &[Block], name: u32) -> bool
     blocks.iter().any(|block| block_uses(block, name))
 }
 
+/// Whether one of the phis assigns the name.
 fn any_phi_assigns(phis: &[Phi], name: u32) -> bool
     ensures { result ≡ list_any (phi_assigns name) phis.now }
 {
     phis.iter().any(|phi| phi.name == name)
 }
 
+/// Whether one of the statements assigns the name.
 fn any_stmt_assigns(stmts: &[Stmt], name: u32) -> bool
     ensures { result ≡ list_any (stmt_assigns name) stmts.now }
 {
     stmts.iter().any(|stmt| stmt.name == name)
 }
 
+/// Whether the block assigns the name.
 fn block_assigns(block: &Block, name: u32) -> bool
     ensures { result ≡ block_assigns name block.now }
 {
@@ -141,6 +172,7 @@ fn distinct_phis(phis: &[Phi], stmts: &[Stmt], after: &[Block]) -> bool
     true
 }
 
+/// Whether the block assigns no name twice, nor one that the blocks behind assign.
 fn is_apart(block: &Block, after: &[Block]) -> bool
     ensures { result ≡ is_apart block.now after.now }
 {

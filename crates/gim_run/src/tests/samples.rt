@@ -12,18 +12,21 @@ use pm_ops::{Code, OutOfMemory, Text};
 use pm_wide::{IntType, Operand, Wide};
 use std::alloc::Global;
 
+/// A use of a name of type unsigned int.
 fn name(version: u32) -> Operand
     ensures { result ≡ sample.name version }
 {
     Operand::Name(version, IntType::unsigned_int())
 }
 
+/// A constant of type unsigned int.
 fn constant(bits: u32) -> Operand
     ensures { result ≡ sample.constant bits }
 {
     Operand::Const(Wide::reduce(u128::from(bits), IntType::unsigned_int()))
 }
 
+/// A declaration of type unsigned int.
 fn declared(alloc: Global, ident: &[u8]) -> Result<Decl, OutOfMemory>
     ensures { IfOk result (λ decl. decl ≡ sample.declared ident.now) }
 {
@@ -34,6 +37,7 @@ fn declared(alloc: Global, ident: &[u8]) -> Result<Decl, OutOfMemory>
     })
 }
 
+/// A row of `names`.
 fn row(alloc: Global, version: u32, base: &[u8]) -> Result<NameRow, OutOfMemory>
     ensures { IfOk result (λ row. row ≡ sample.row version base.now) }
 {
@@ -46,6 +50,7 @@ fn row(alloc: Global, version: u32, base: &[u8]) -> Result<NameRow, OutOfMemory>
     })
 }
 
+/// A phi with an operand from each of the two blocks that lead to the head.
 fn phi(alloc: Global, version: u32, first: Operand, second: Operand) -> Result<Phi, OutOfMemory>
     ensures { IfOk result (λ phi. phi ≡ sample.phi version first second) }
 {
@@ -56,6 +61,7 @@ fn phi(alloc: Global, version: u32, first: Operand, second: Operand) -> Result<P
     })
 }
 
+/// A statement with an operation on two operands.
 fn operation(
     alloc: Global,
     version: u32,
@@ -73,6 +79,7 @@ fn operation(
     Ok(stmts)
 }
 
+/// The first block.
 fn entry(alloc: Global) -> Block
     ensures { result ≡ sample.entry }
 {
@@ -84,6 +91,7 @@ fn entry(alloc: Global) -> Block
     }
 }
 
+/// The block with the phis and the condition.
 fn head(alloc: Global) -> Result<Block, OutOfMemory>
     ensures { IfOk result (λ block. block ≡ sample.head) }
 {
@@ -104,6 +112,7 @@ fn head(alloc: Global) -> Result<Block, OutOfMemory>
     })
 }
 
+/// The block of a turn.
 fn body(alloc: Global) -> Result<Block, OutOfMemory>
     ensures { IfOk result (λ block. block ≡ sample.body) }
 {
@@ -116,6 +125,7 @@ fn body(alloc: Global) -> Result<Block, OutOfMemory>
     })
 }
 
+/// The block that returns.
 fn exit(alloc: Global) -> Result<Block, OutOfMemory>
     ensures { IfOk result (λ block. block ≡ sample.exit) }
 {
@@ -128,6 +138,7 @@ fn exit(alloc: Global) -> Result<Block, OutOfMemory>
     })
 }
 
+/// The locals of the loop.
 fn locals(alloc: Global) -> Result<Items<Decl>, OutOfMemory>
     ensures { IfOk result (λ decls. decls ≡ sample.exchanging.decls) }
 {
@@ -144,6 +155,7 @@ fn locals(alloc: Global) -> Result<Items<Decl>, OutOfMemory>
     Ok(Items::from_vec(decls))
 }
 
+/// The rows of the loop.
 fn rows(alloc: Global) -> Result<Items<NameRow>, OutOfMemory>
     ensures { IfOk result (λ rows. rows ≡ sample.exchanging.names) }
 {
@@ -164,6 +176,7 @@ fn rows(alloc: Global) -> Result<Items<NameRow>, OutOfMemory>
     Ok(Items::from_vec(rows))
 }
 
+/// The function with the loop.
 fn assembled(alloc: Global) -> Result<Function, OutOfMemory>
     ensures { IfOk result (λ f. f ≡ sample.exchanging) }
 {
@@ -214,6 +227,7 @@ pub(super) fn endless(alloc: Global) -> Result<Function, OutOfMemory>
     })
 }
 
+/// The local `_1`.
 fn local(alloc: Global) -> Result<Items<Decl>, OutOfMemory>
     ensures { IfOk result (λ decls. decls ≡ sample.int_local ∷ []) }
 {
@@ -224,6 +238,7 @@ fn local(alloc: Global) -> Result<Items<Decl>, OutOfMemory>
     Ok(Items::from_vec(Vec::from_array(alloc, [decl])?))
 }
 
+/// The row of `_1`.
 fn local_row(alloc: Global) -> Result<Items<NameRow>, OutOfMemory>
     ensures { IfOk result (λ rows. rows ≡ sample.int_row ∷ []) }
 {

@@ -1,5 +1,5 @@
 use Rattle.std.proofs.Common.{arith, sym, ◌∙◌}
-use Rattle.gim_ast.specs.Subjects.{subjects_of_block}
+use Rattle.first_patterns.specs.Subjects.{subjects_of_block}
 use Rattle.first_rewriting.specs.Choices.{found_of}
 use Rattle.first_rewriting.proofs.Choosing.{passed, taken, folds_here, folds_after, none_found, some_found}
 use Rattle.first_rewriting.proofs.choice.next_among.Goals as goal

@@ -1,6 +1,6 @@
 use Rattle.std.proofs.Common.{◌≡◌, drop}
 use Rattle.std.specs.List.{flat_map}
-use Rattle.gim_ast.specs.Subjects.{subjects_of_block}
+use Rattle.first_patterns.specs.Subjects.{subjects_of_block}
 use Rattle.first_rewriting.specs.Choices.{first_found, EachFolds}
 use Rattle.first_rewriting.proofs.choice.next_among.Given as goal
 

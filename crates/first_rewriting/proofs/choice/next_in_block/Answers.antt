@@ -1,6 +1,6 @@
 use Rattle.std.proofs.Common.{sym, subst, ap}
 use Rattle.std.specs.List.{flat_map}
-use Rattle.gim_ast.specs.Subjects.{subjects_of_end}
+use Rattle.first_patterns.specs.Subjects.{subjects_of_end}
 use Rattle.first_rewriting.specs.Choices.{EachFolds, stmt_subjects}
 use Rattle.first_rewriting.proofs.Choosing.{folds_left, folds_right, block_as_lists}
 use Rattle.first_rewriting.proofs.choice.next_in_block.Goals as goal

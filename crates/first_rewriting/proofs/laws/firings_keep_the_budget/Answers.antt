@@ -1,5 +1,5 @@
-use Rattle.gim_ast.specs.Removal.{tidied}
-use Rattle.gim_ast.specs.Rewriting.{rewriting_of}
+use Rattle.gim_changes.specs.Trimming.{tidied}
+use Rattle.first_rewriting.specs.Rewriting.{rewriting_of}
 use Rattle.first_patterns.specs.Matching.{row_at}
 use Rattle.first_rewriting.proofs.Ends.{reaches, within_budget, budget_spent}
 use Rattle.first_rewriting.proofs.laws.firings_keep_the_budget.Goals as goal

@@ -1,4 +1,4 @@
-use Rattle.gim_ast.specs.Removal.{tidied}
+use Rattle.gim_changes.specs.Trimming.{tidied}
 use Rattle.first_patterns.specs.Matching.{row_at}
 use Rattle.first_rewriting.proofs.Ends.{reaches, reached}
 use Rattle.first_rewriting.proofs.laws.rewriting_is_by_steps.Goals as goal

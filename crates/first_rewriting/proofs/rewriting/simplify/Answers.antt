@@ -1,5 +1,5 @@
 use Rattle.std.proofs.Common.{◌≡◌, ◌-◌, ◌+◌, suc, ap, sym, ◌∙◌, subst, arith}
-use Rattle.gim_ast.specs.Rewriting.{rewriting_of}
+use Rattle.first_rewriting.specs.Rewriting.{rewriting_of}
 use Rattle.first_patterns.specs.Matching.{row_at}
 use Rattle.first_rewriting.specs.Choices.{found_of}
 use Rattle.first_rewriting.specs.Views.{firing_told}

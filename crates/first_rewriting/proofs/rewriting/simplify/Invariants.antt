@@ -1,5 +1,5 @@
 use Rattle.std.proofs.Common.{◌-◌}
-use Rattle.gim_ast.specs.Rewriting.{rewriting_of}
+use Rattle.first_rewriting.specs.Rewriting.{rewriting_of}
 use Rattle.first_patterns.specs.Matching.{row_at}
 use Rattle.first_rewriting.specs.Typed.{IsTyped}
 use Rattle.first_rewriting.proofs.Stepping.{Leads}

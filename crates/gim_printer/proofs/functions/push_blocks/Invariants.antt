@@ -1,6 +1,6 @@
 use Rattle.std.proofs.Common.{◌≡◌, ◌++◌, take}
 use Rattle.std.specs.List.{flat_map}
-use Rattle.gim_ast.specs.Printing.{block_text}
+use Rattle.gim_printer.specs.Printing.{block_text}
 use Rattle.gim_printer.proofs.functions.push_blocks.Given as goal
 
 abbrev pub invariant-loop-block : goal.invariant-loop-block

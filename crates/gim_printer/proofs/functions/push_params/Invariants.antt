@@ -1,6 +1,6 @@
 use Rattle.std.proofs.Common.{◌≡◌, ◌++◌, take, codes}
 use Rattle.std.specs.List.{flat_map}
-use Rattle.gim_ast.specs.Printing.{declared_text}
+use Rattle.gim_printer.specs.Printing.{declared_text}
 use Rattle.gim_printer.proofs.functions.push_params.Given as goal
 
 abbrev pub invariant-loop-param : goal.invariant-loop-param

@@ -1,7 +1,7 @@
 use Rattle.std.proofs.Common.{rules}
 use Rattle.std.proofs.lemmas.List.Sorted.{answers_always}
 use Rattle.gim_ast.specs.declared.function.NameRow.{NameRow}
-use Rattle.gim_printer.proofs.Rows.{row_found, row_missing}
+use Rattle.gim_printer.proofs.RowSearch.{row_found, row_missing}
 use Rattle.gim_printer.proofs.names.row.Goals as goal
 
 pub returns-in-Ok : goal.returns-in-Ok

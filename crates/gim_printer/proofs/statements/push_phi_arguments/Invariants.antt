@@ -1,6 +1,6 @@
 use Rattle.std.proofs.Common.{◌≡◌, ◌++◌, take, codes}
 use Rattle.std.specs.List.{flat_map}
-use Rattle.gim_ast.specs.Printing.{phi_argument_text}
+use Rattle.gim_printer.specs.Printing.{phi_argument_text}
 use Rattle.gim_printer.proofs.statements.push_phi_arguments.Given as goal
 
 abbrev pub invariant-loop-argument : goal.invariant-loop-argument

@@ -1,4 +1,4 @@
-use Rattle.gim_ast.proofs.FlowLemmas.{first_is_one}
+use Rattle.gim_ast.proofs.FirstUnreadable.{first_is_one}
 use Rattle.gim_ssa.proofs.laws.first_unreadable_is_one.Goals as goal
 
 pub returns : goal.returns

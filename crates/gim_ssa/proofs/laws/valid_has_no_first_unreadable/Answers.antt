@@ -1,4 +1,4 @@
-use Rattle.gim_ast.proofs.FlowLemmas.{valid_has_no_first}
+use Rattle.gim_ast.proofs.FirstUnreadable.{valid_has_no_first}
 use Rattle.gim_ssa.proofs.laws.valid_has_no_first_unreadable.Goals as goal
 
 pub returns : goal.returns

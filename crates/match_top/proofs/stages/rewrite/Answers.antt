@@ -1,7 +1,7 @@
 -- The rewriting keeps the rows of `names` in order, and what is written is that of the rewriting.
 use Rattle.std.proofs.Common.{◌≡◌, ap, subst, ◌∙◌, IfOk}
-use Rattle.gim_ast.specs.Printing.{names_rise}
-use Rattle.gim_ast.specs.Rewriting.{Rewritten, rewriting_of}
+use Rattle.gim_ast.specs.WellFormed.{names_rise}
+use Rattle.first_rewriting.specs.Rewriting.{Rewritten, rewriting_of}
 use Rattle.first_patterns.specs.Matching.{row_at}
 use Rattle.first_rewriting.specs.Views.{rewritten}
 use Rattle.match_top.specs.Answers.{simplified, written, budget}

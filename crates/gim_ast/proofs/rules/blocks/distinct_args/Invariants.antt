@@ -1,5 +1,5 @@
 use Rattle.std.proofs.Common.{◌≡◌, length}
-use Rattle.gim_ast.specs.Parts.{distinct_args}
+use Rattle.gim_ast.specs.RulesByPart.{distinct_args}
 use Rattle.gim_ast.proofs.rules.blocks.distinct_args.Given as goal
 
 abbrev pub invariant-loop-rest : goal.invariant-loop-rest

@@ -1,5 +1,5 @@
 use Rattle.std.proofs.Common.{◌≡◌, drop}
-use Rattle.gim_ast.specs.Parts.{count_in_stmts}
+use Rattle.gim_ast.specs.RulesByPart.{count_in_stmts}
 use Rattle.gim_ast.proofs.rules.bounds.count_in_stmts.Given as goal
 
 abbrev pub invariant-loop-stmt : goal.invariant-loop-stmt

@@ -1,5 +1,5 @@
 use Rattle.std.proofs.Common.{◌≡◌, length}
-use Rattle.gim_ast.specs.Parts.{distinct_idents}
+use Rattle.gim_ast.specs.RulesByPart.{distinct_idents}
 use Rattle.gim_ast.proofs.rules.declarations.distinct_idents.Given as goal
 
 abbrev pub invariant-loop-rest : goal.invariant-loop-rest

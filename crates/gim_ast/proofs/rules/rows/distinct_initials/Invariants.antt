@@ -1,5 +1,5 @@
 use Rattle.std.proofs.Common.{◌≡◌, length}
-use Rattle.gim_ast.specs.Parts.{distinct_initials}
+use Rattle.gim_ast.specs.RulesByPart.{distinct_initials}
 use Rattle.gim_ast.proofs.rules.rows.distinct_initials.Given as goal
 
 abbrev pub invariant-loop-rest : goal.invariant-loop-rest

@@ -1,5 +1,5 @@
 use Rattle.std.proofs.Common.{◌≡◌, length}
-use Rattle.gim_ast.specs.Parts.{rows_rise}
+use Rattle.gim_ast.specs.RulesByPart.{rows_rise}
 use Rattle.gim_ast.proofs.rules.rows.rows_rise.Given as goal
 
 abbrev pub invariant-loop-rest : goal.invariant-loop-rest

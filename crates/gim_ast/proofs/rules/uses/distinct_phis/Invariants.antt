@@ -1,5 +1,5 @@
 use Rattle.std.proofs.Common.{◌≡◌, length}
-use Rattle.gim_ast.specs.Parts.{distinct_phis}
+use Rattle.gim_ast.specs.RulesByPart.{distinct_phis}
 use Rattle.gim_ast.proofs.rules.uses.distinct_phis.Given as goal
 
 abbrev pub invariant-loop-rest : goal.invariant-loop-rest

@@ -1,8 +1,0 @@
-use Rattle.std.proofs.Common.{◌≡◌, map, drop}
-use Rattle.gim_ast.specs.Functions.{phi_name}
-use Rattle.first_rewriting.specs.Blocks.{last_unused_of}
-use Rattle.first_rewriting.proofs.removal.last_unused_phi.Given as goal
-
-abbrev pub invariant-loop-phi : goal.invariant-loop-phi
-invariant-loop-phi l =
-    last_unused_of l.function l.found (map phi_name (drop l.phi-index l.phis)) ≡ last_unused_of l.function l.initial.found (map phi_name l.phis)

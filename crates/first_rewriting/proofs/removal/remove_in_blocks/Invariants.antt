@@ -1,6 +1,0 @@
-use Rattle.gim_ast.specs.Removal.{without_in_block}
-use Rattle.first_rewriting.proofs.Lists.{IsMapped}
-use Rattle.first_rewriting.proofs.removal.remove_in_blocks.Given as goal
-
-abbrev pub invariant-loop-i : goal.invariant-loop-i
-invariant-loop-i l = IsMapped (without_in_block l.name) l.i l.i-end l.initial.blocks l.blocks

@@ -1,6 +1,0 @@
-use Rattle.first_rewriting.specs.Blocks.{put_in_arg}
-use Rattle.first_rewriting.proofs.Lists.{IsMapped}
-use Rattle.first_rewriting.proofs.substitution.put_in_args.Given as goal
-
-abbrev pub invariant-loop-i : goal.invariant-loop-i
-invariant-loop-i l = IsMapped (put_in_arg l.name l.by) l.i l.i-end l.initial.args l.args

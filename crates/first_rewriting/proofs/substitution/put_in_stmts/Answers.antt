@@ -1,9 +1,0 @@
-use Rattle.std.proofs.Common.{arith}
-use Rattle.first_rewriting.proofs.Lists.{mapped_next, mapped_end}
-use Rattle.first_rewriting.proofs.substitution.put_in_stmts.Goals as goal
-
-pub loop-i-preserved : goal.loop-i-preserved
-loop-i-preserved c = mapped_next c.loop-i.invariant _ _ c.at_mut.ensures.item c.put_in_stmt.ensures
-
-pub returns : goal.returns
-returns c = mapped_end c.loop-i.invariant (omega arith)

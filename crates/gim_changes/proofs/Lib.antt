@@ -1,0 +1,6 @@
+pub mod FlowKept
+pub mod LoopLemmas
+pub mod PlaceCounts
+pub mod PlaceItems
+pub mod TrimmedFirst
+pub mod Unused

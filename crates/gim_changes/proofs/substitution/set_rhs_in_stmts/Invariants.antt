@@ -1,0 +1,8 @@
+use Rattle.std.proofs.Common.{◌∷◌, []}
+use Rattle.gim_ast.specs.declared.function.Rhs.TheVariants.{Op}
+use Rattle.gim_changes.specs.Substitution.{with_rhs_in_stmt}
+use Rattle.gim_changes.proofs.LoopLemmas.{IsMapped}
+use Rattle.gim_changes.proofs.substitution.set_rhs_in_stmts.Given as goal
+
+abbrev pub invariant-loop-i : goal.invariant-loop-i
+invariant-loop-i l = IsMapped (with_rhs_in_stmt l.name (Op l.code (l.left ∷ l.right ∷ []))) l.i l.i-end l.initial.stmts l.stmts

@@ -1,0 +1,5 @@
+pub mod LastUnused
+pub mod Removal
+pub mod Substitution
+pub mod Trimming
+pub mod UsePlaces

@@ -1,5 +1,0 @@
-use Rattle.gim_ast.proofs.FlowLemmas.{put_in_flow}
-use Rattle.gim_ssa.proofs.laws.substitution_keeps_flow.Goals as goal
-
-pub returns : goal.returns
-returns c = λ f x by. put_in_flow x by f
