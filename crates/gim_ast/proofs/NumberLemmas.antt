@@ -8,8 +8,10 @@ use Rattle.std.proofs.lemmas.Str.Parse.{IsDigitsTest, FoldsDigits, IsNumeralMode
 use Rattle.std.proofs.lemmas.Fmt.{decimal_digit, digits_decimal, digits_value-decimal, decimal-digits_value, decimal_nonempty, first_decimal}
 use Rattle.std.proofs.lemmas.Bool.{and_parts, and_from, lt-ltb, ltb-true, leb-true, eqb-true, eqb-false, ne_eqb, not-true, not_from_false, false_from_ne_true, and_left, and_right, false≢true}
 use Rattle.std.proofs.lemmas.Bool.Decides.{nat_tests}
-use Rattle.gim_ast.specs.Identifiers.{is_digit, is_number_text, anonymous}
-use Rattle.gim_ast.specs.Numbers.{number_after, capped, number_below, name_from, name_below}
+use Rattle.gim_ast.specs.Identifiers.{anonymous}
+use Rattle.lexing.specs.Bytes.{is_digit}
+use Rattle.lexing.specs.Numbers.{is_number_text, number_after, capped, number_below}
+use Rattle.gim_ast.specs.Numbers.{name_from, name_below}
 
 -- ---- digits and their number
 

@@ -1,6 +1,6 @@
 -- Numbers below a limit, and names, as they are read from their bytes.
 use Rattle.std.specs.Prelude.{ℕ, ◌+◌, ◌*◌, ◌-◌, ◌==◌, nat_lt, min, Option, Some, None, option_map, List, [], ◌∷◌, if◌then◌else◌}
-use Rattle.gim_ast.specs.Identifiers.{is_number_text}
+use Rattle.lexing.specs.Numbers.{is_number_text}
 
 -- the number that digits write behind those of another
 abbrev pub number_after : ℕ → List ℕ → ℕ

@@ -9,20 +9,23 @@ use Rattle.std.proofs.lemmas.List.{length-drop, length-take-le}
 use Rattle.std.proofs.lemmas.List.Sums.{prefix_len-le-length}
 use Rattle.std.proofs.lemmas.List.Folds.{list_any-append}
 use Rattle.std.proofs.Math.Seq.{take-add}
-use Rattle.gim_ast.specs.Identifiers.{is_digit, is_letter, is_word_byte, is_word_text, is_block_word, is_reserved, reserved_words}
-use Rattle.gim_text.specs.declared.token.Span.{Span}
+use Rattle.gim_ast.specs.Identifiers.{is_block_word, is_reserved, reserved_words}
+use Rattle.lexing.specs.Bytes.{is_digit, is_letter, is_word_byte, is_suffix_letter, is_inner}
+use Rattle.lexing.specs.Words.{is_word_text}
+use Rattle.pm_places.specs.declared.span.Span.{Span}
 use Rattle.gim_text.specs.declared.token.Token.{Token}
 use Rattle.gim_text.specs.declared.token.Token.TheVariants as tokens
 use Rattle.gim_text.specs.declared.token.TypeWord.{TypeWord}
 use Rattle.gim_text.specs.declared.token.Keyword.{Keyword}
 use Rattle.gim_text.specs.declared.token.Mark.{Mark as MarkKind}
 use Rattle.gim_text.specs.Meanings.{span_of}
-use Rattle.gim_lexer.specs.Tables.{beside}
+use Rattle.lexing.specs.Tables.{beside}
 use Rattle.gim_lexer.specs.Words.{type_words, keyword_table, type_word_of, keyword_of, plain_word, word_from, word_token}
-use Rattle.gim_lexer.specs.Numbers.{is_suffix_letter}
 use Rattle.gim_lexer.specs.Marks.{short_mark, long_mark}
-use Rattle.gim_lexer.specs.Separators.{opens, begins_with_space, opens_note, is_no_line_feed, line_length, length_to_star_slash, separator_length}
-use Rattle.gim_lexer.specs.Tokens.{place, is_inner, word_at, number_at, text_at, mark_from, mark_at, token_of_text}
+use Rattle.gim_lexer.specs.Separators.{opens_note, separator_length}
+use Rattle.lexing.specs.Separators.{opens, begins_with_space, is_no_line_feed, line_length, length_to_star_slash}
+use Rattle.gim_lexer.specs.Tokens.{word_at, number_at, text_at, mark_from, mark_at, token_of_text}
+use Rattle.pm_places.specs.Spans.{place}
 use Rattle.gim_lexer.specs.Spelled.{Spells}
 
 -- ---- runs of bytes

@@ -7,23 +7,26 @@ use Rattle.std.specs.Cmp.Lexicographic.{bytes_decides}
 use Rattle.std.proofs.lemmas.Bool.{and_parts, and_from, false≢true, eqb-true, or_right}
 use Rattle.std.proofs.lemmas.Bool.Decides.{nat_tests}
 use Rattle.std.proofs.lemmas.List.{length-drop, length-take-le, length-append}
-use Rattle.gim_ast.specs.Identifiers.{is_digit, is_letter, is_word_byte, is_word_text, is_number_text, is_block_word, is_reserved}
-use Rattle.gim_text.specs.declared.token.Span.{Span}
+use Rattle.gim_ast.specs.Identifiers.{is_block_word, is_reserved}
+use Rattle.lexing.specs.Bytes.{is_digit, is_letter, is_word_byte, is_suffix_letter, is_inner}
+use Rattle.lexing.specs.Words.{is_word_text}
+use Rattle.lexing.specs.Numbers.{is_number_text}
+use Rattle.pm_places.specs.declared.span.Span.{Span}
 use Rattle.gim_text.specs.declared.token.Token.{Token}
 use Rattle.gim_text.specs.declared.token.Token.TheVariants as tokens
 use Rattle.gim_text.specs.declared.token.NumberKind.{NumberKind}
 use Rattle.gim_text.specs.declared.token.Mark.{Mark as MarkKind}
 use Rattle.gim_text.specs.Meanings.{span_of}
-use Rattle.gim_lexer.specs.Tables.{beside}
+use Rattle.lexing.specs.Tables.{beside}
 use Rattle.gim_lexer.specs.Words.{type_words, keyword_table}
-use Rattle.gim_lexer.specs.Numbers.{is_suffix_letter}
 use Rattle.gim_lexer.specs.Marks.{short_mark, long_mark, short_marks, long_marks}
-use Rattle.gim_lexer.specs.Separators.{opens}
-use Rattle.gim_lexer.specs.Tokens.{place, is_inner, word_at, number_at, text_at, mark_from, mark_at, token_of_text}
+use Rattle.lexing.specs.Separators.{opens}
+use Rattle.gim_lexer.specs.Tokens.{word_at, number_at, text_at, mark_from, mark_at, token_of_text}
+use Rattle.pm_places.specs.Spans.{place}
 use Rattle.gim_lexer.specs.Spelled.{IsNumber, IsQuoted, Spells}
 use Rattle.gim_lexer.specs.Longest.{Covers, OpensComment, IsLongestMatch}
-use Rattle.gim_lexer.proofs.Fronts.{word_place, letter_is_word}
-use Rattle.gim_lexer.proofs.NumberTexts.{letter_is_no_digit}
+use Rattle.gim_lexer.proofs.Fronts.{word_place}
+use Rattle.lexing.proofs.ByteLemmas.{letter_is_word, letter_is_no_digit}
 
 -- ---- runs
 

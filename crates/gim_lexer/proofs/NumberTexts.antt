@@ -6,16 +6,18 @@ use Rattle.std.specs.Str.{str_eq_ignore_ascii_case}
 use Rattle.std.proofs.lemmas.Bool.{and_parts, false≢true}
 use Rattle.std.proofs.lemmas.Bool.Decides.{nat_tests}
 use Rattle.std.proofs.lemmas.List.{append-nil}
-use Rattle.gim_ast.specs.Identifiers.{is_digit, is_number_text, is_identifier, is_block_word}
-use Rattle.gim_text.specs.declared.token.Span.{Span}
+use Rattle.gim_ast.specs.Identifiers.{is_identifier, is_block_word}
+use Rattle.lexing.specs.Bytes.{is_digit, is_suffix_letter}
+use Rattle.lexing.specs.Numbers.{is_number_text, leading_digits}
+use Rattle.pm_places.specs.declared.span.Span.{Span}
 use Rattle.gim_text.specs.declared.token.Token.{Token}
 use Rattle.gim_text.specs.declared.token.Token.TheVariants as tokens
 use Rattle.gim_text.specs.declared.token.NumberKind.{NumberKind}
 use Rattle.gim_text.specs.declared.token.NumberKind.TheVariants.{Plain, Unsigned, Long, UnsignedLong, Wrong}
 use Rattle.gim_text.specs.Meanings.{span_of}
-use Rattle.gim_text.specs.Texts.{text_of, leading_digits}
-use Rattle.gim_lexer.specs.Tables.{meaning_of, beside_in_any_case}
-use Rattle.gim_lexer.specs.Numbers.{is_suffix_letter, suffixes, suffix_kind, number_kind}
+use Rattle.pm_places.specs.Spans.{text_of}
+use Rattle.lexing.specs.Tables.{meaning_of, beside_in_any_case}
+use Rattle.gim_lexer.specs.Numbers.{suffixes, suffix_kind, number_kind}
 use Rattle.gim_lexer.specs.Cuts.{AreTokens}
 use Rattle.gim_lexer.specs.Spelled.{Spells, AllStandIn}
 use Rattle.gim_lexer.specs.Meant.{IsNumberText, MeansItsText, AllMeanTheirTexts}

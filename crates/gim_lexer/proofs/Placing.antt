@@ -1,10 +1,10 @@
 -- Tokens stand in their source, one behind the other.
 use Rattle.std.proofs.Common.{◌≡◌, ℕ, ◌+◌, ◌-◌, ◌≤◌, List, [], ◌∷◌, length, take, drop, Some, sym, ap, ◌∙◌, subst, arith}
 use Rattle.std.proofs.lemmas.List.{length-drop}
-use Rattle.gim_text.specs.declared.token.Span.{Span}
+use Rattle.pm_places.specs.declared.span.Span.{Span}
 use Rattle.gim_text.specs.declared.token.Token.{Token}
 use Rattle.gim_text.specs.Meanings.{span_of}
-use Rattle.gim_text.specs.Texts.{text_of}
+use Rattle.pm_places.specs.Spans.{text_of}
 use Rattle.gim_lexer.specs.Cuts.{token_at, Cuts, done, separator, token, AreTokens}
 use Rattle.gim_lexer.specs.Spelled.{Spells, StandsIn, AllStandIn, InOrder}
 use Rattle.gim_lexer.proofs.Fronts.{token_front}

@@ -2,7 +2,7 @@
 use Rattle.std.proofs.Common.{◌≡◌, ℕ, ◌+◌, ◌<◌, ◌≤◌, true, false, List, [], ◌∷◌, length, get_or, drop, drop-cons, add-one, codes, Option, Some, None, refl, sym, ap, ◌∙◌, arith}
 use Rattle.std.specs.Prelude.{option_map}
 use Rattle.std.proofs.lemmas.List.{drop_all}
-use Rattle.gim_lexer.specs.Separators.{opens, length_to_star_slash}
+use Rattle.lexing.specs.Separators.{opens, length_to_star_slash}
 
 ends_here : (text : List ℕ) → opens text (codes "*/") ≡ true → length_to_star_slash text ≡ Some 2
 unfolding length_to_star_slash

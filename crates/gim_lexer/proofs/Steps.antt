@@ -1,7 +1,7 @@
 -- What a piece says of separators and tokens, and what the loop over pieces keeps.
 use Rattle.std.proofs.Common.{◌≡◌, ℕ, ◌<◌, ◌≤◌, List, [], ◌∷◌, ◌++◌, length, Option, Some, None, refl, sym, ap, ◌∙◌, subst, arith}
 use Rattle.gim_text.specs.declared.token.Token.{Token}
-use Rattle.gim_text.specs.declared.token.Span.{Span}
+use Rattle.pm_places.specs.declared.span.Span.{Span}
 use Rattle.gim_text.specs.Meanings.{span_of}
 use Rattle.gim_lexer.specs.declared.pieces.Piece.{Piece}
 use Rattle.gim_lexer.specs.declared.pieces.Piece.TheVariants as pieces

@@ -3,7 +3,7 @@ use Rattle.std.proofs.Common.{◌≡◌, ℕ, Bool, true, false, cond, List, [],
 use Rattle.std.specs.Borrow.{Bor}
 use Rattle.std.specs.Prelude.{option_map, find}
 use Rattle.std.specs.Str.{bytes_eq, str_eq_ignore_ascii_case}
-use Rattle.gim_lexer.specs.Tables.{meaning_of, beside, beside_in_any_case, row_of_bytes}
+use Rattle.lexing.specs.Tables.{meaning_of, beside, beside_in_any_case, row_of_bytes}
 
 meaning_rows : {X : Type 0} (test : List ℕ → Bool) (rows : List (Bor (List ℕ) × X)) → meaning_of test (map row_of_bytes rows) ≡ option_map (λ row. row.1) (find (λ row. test row.0.now) rows)
 meaning_rows test [] = refl

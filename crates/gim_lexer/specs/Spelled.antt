@@ -1,17 +1,17 @@
 -- What the text of a token is.
 use Rattle.std.specs.Prelude.{◌≡◌, ◌⊎◌, ℕ, ◌<◌, ◌≤◌, IsTrue, Some, List, [], ◌∷◌, ◌++◌, length, codes}
 use Rattle.std.specs.List.{list_all, AllByRecursion}
-use Rattle.gim_ast.specs.Identifiers.{is_digit, is_identifier, is_block_word}
+use Rattle.gim_ast.specs.Identifiers.{is_identifier, is_block_word}
+use Rattle.lexing.specs.Bytes.{is_digit, is_suffix_letter, is_inner}
 use Rattle.gim_text.specs.declared.token.Token.{Token}
 use Rattle.gim_text.specs.declared.token.Token.TheVariants as tokens
 use Rattle.gim_text.specs.declared.token.NumberKind.{NumberKind}
 use Rattle.gim_text.specs.Meanings.{span_of}
-use Rattle.gim_text.specs.Texts.{text_of}
-use Rattle.gim_lexer.specs.Tables.{beside}
+use Rattle.pm_places.specs.Spans.{text_of}
+use Rattle.lexing.specs.Tables.{beside}
 use Rattle.gim_lexer.specs.Words.{type_word_of, keyword_of}
-use Rattle.gim_lexer.specs.Numbers.{is_suffix_letter, number_kind}
+use Rattle.gim_lexer.specs.Numbers.{number_kind}
 use Rattle.gim_lexer.specs.Marks.{short_marks, long_marks}
-use Rattle.gim_lexer.specs.Tokens.{is_inner}
 
 -- one digit or more, and then a suffix
 pub record IsNumber (kind : NumberKind) (text : List ℕ) : Type 0 where

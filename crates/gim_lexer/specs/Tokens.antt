@@ -1,14 +1,14 @@
 -- The token that begins a text, as long as it can be.
 use Rattle.std.specs.Prelude.{ℕ, ◌+◌, ◌==◌, Bool, not, ◌&&◌, Option, Some, None, List, [], ◌∷◌, take, drop, codes, if◌then◌else◌}
 use Rattle.std.specs.List.{prefix_len}
-use Rattle.gim_ast.specs.Identifiers.{is_digit, is_letter, is_word_byte}
-use Rattle.gim_text.specs.declared.token.Span.{Span}
+use Rattle.lexing.specs.Bytes.{is_digit, is_letter, is_word_byte, is_suffix_letter}
+use Rattle.pm_places.specs.declared.span.Span.{Span}
 use Rattle.gim_text.specs.declared.token.Token.{Token}
 use Rattle.gim_text.specs.declared.token.Token.TheVariants.{Number, Text, Mark}
 use Rattle.gim_text.specs.declared.token.Mark.{Mark as MarkKind}
-use Rattle.gim_lexer.specs.Separators.{opens}
+use Rattle.lexing.specs.Separators.{opens}
 use Rattle.gim_lexer.specs.Words.{word_token}
-use Rattle.gim_lexer.specs.Numbers.{is_suffix_letter, number_kind}
+use Rattle.gim_lexer.specs.Numbers.{number_kind}
 use Rattle.gim_lexer.specs.Marks.{short_mark, long_mark}
 
 -- the place of the n bytes from `at` on

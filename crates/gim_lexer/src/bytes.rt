@@ -2,10 +2,8 @@
 
 ghost use Rattle.std.specs.Prelude.{◌≡◌, ◌≤◌, length};
 ghost use Rattle.std.specs.List.{prefix_len};
-ghost use Rattle.gim_ast.specs.Identifiers.{is_digit, is_letter, is_word_byte};
-ghost use Rattle.gim_lexer.specs.Numbers.{is_suffix_letter};
-ghost use Rattle.gim_lexer.specs.Separators.{is_space, is_no_line_feed};
-ghost use Rattle.gim_lexer.specs.Tokens.{is_inner};
+ghost use Rattle.lexing.specs.Bytes.{is_digit, is_letter, is_word_byte, is_suffix_letter, is_inner};
+ghost use Rattle.lexing.specs.Separators.{is_space, is_no_line_feed};
 
 /// Whether the byte is white space.
 pub(crate) fn is_space(byte: u8) -> bool

@@ -21,8 +21,9 @@ ghost use Rattle.gim_text.specs.Faults.{memory_fault};
 ghost use Rattle.gim_lexer.specs.Cuts.{AreTokens};
 ghost use Rattle.gim_lexer.specs.Faults.{lex_fault, IsCause};
 
-use gim_text::{GimpleFault, GimpleKind, Span, Token};
+use gim_text::{GimpleFault, GimpleKind, Token};
 use pieces::Piece;
+use pm_places::Span;
 use std::alloc::Global;
 
 /// A fault at a place where nothing begins.

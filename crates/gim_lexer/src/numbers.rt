@@ -2,7 +2,8 @@
 
 ghost use Rattle.std.specs.Prelude.{◌≡◌};
 ghost use Rattle.std.specs.List.{list_all};
-ghost use Rattle.gim_ast.specs.Identifiers.{is_digit, is_number_text};
+ghost use Rattle.lexing.specs.Bytes.{is_digit};
+ghost use Rattle.lexing.specs.Numbers.{is_number_text};
 ghost use Rattle.gim_lexer.specs.Numbers.{suffix_kind, number_kind};
 
 use crate::bytes::is_digit;

@@ -1,7 +1,8 @@
 //! What separates tokens: white space, notes and comments.
 
 ghost use Rattle.std.specs.Prelude.{◌≡◌, ◌≤◌, ◌<◌, length, IfSome};
-ghost use Rattle.gim_lexer.specs.Separators.{begins_with_space, opens_note, line_length, length_to_star_slash, separator_length};
+ghost use Rattle.gim_lexer.specs.Separators.{opens_note, separator_length};
+ghost use Rattle.lexing.specs.Separators.{begins_with_space, line_length, length_to_star_slash};
 
 use crate::bytes::{is_space, line_len};
 

@@ -2,7 +2,7 @@
 
 ghost use Rattle.std.specs.Prelude.{◌≡◌, map, find, option_map};
 ghost use Rattle.std.specs.Str.{bytes_eq, str_eq_ignore_ascii_case};
-ghost use Rattle.gim_lexer.specs.Tables.{beside, beside_in_any_case, row_of_bytes};
+ghost use Rattle.lexing.specs.Tables.{beside, beside_in_any_case, row_of_bytes};
 
 /// A spelling with its meaning.
 pub(crate) type Row<T> = (&'static str, T);

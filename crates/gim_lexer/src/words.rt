@@ -6,7 +6,8 @@ ghost use Rattle.gim_lexer.specs.Words.{type_word_of, keyword_of, plain_word, wo
 
 use crate::numbers::is_number_text;
 use crate::tables::{Row, beside};
-use gim_text::{Keyword, Span, Token, TypeWord};
+use gim_text::{Keyword, Token, TypeWord};
+use pm_places::Span;
 
 /// The words of types.
 const TYPE_WORDS: [Row<TypeWord>; 8] = [

@@ -5,7 +5,8 @@ use Rattle.std.proofs.lemmas.List.Concat.{flat_map-cons}
 use Rattle.gim_text.specs.declared.fault.GimpleFault.{GimpleFault}
 use Rattle.gim_text.specs.declared.fault.GimpleKind.{GimpleKind}
 use Rattle.gim_text.specs.declared.fault.GimpleKind.TheVariants.{Memory}
-use Rattle.gim_text.specs.Faults.{first_fault, or_fault, IsFault, Judges}
+use Rattle.gim_text.specs.Faults.{IsFault, Judges}
+use Rattle.pm_places.specs.FirstFaults.{first_fault, or_fault}
 
 pub first_fault-append : (xs ys : List (Option GimpleFault)) → first_fault (xs ++ ys) ≡ or_fault (first_fault xs) (first_fault ys)
 first_fault-append [] ys = refl

@@ -16,7 +16,8 @@ use Rattle.gim_syntax.specs.Grammar.{SpellsFile}
 use Rattle.gim_syntax.specs.SyntaxFaults.{IsRefused}
 use Rattle.gim_making.specs.Standing.{StandsFor}
 use Rattle.gim_ast.specs.WellFormed.{IsWellFormed}
-use Rattle.gim_text.specs.Faults.{Judges, or_fault}
+use Rattle.gim_text.specs.Faults.{Judges}
+use Rattle.pm_places.specs.FirstFaults.{or_fault}
 use Rattle.gim_names.specs.NamesFault.{names_fault}
 use Rattle.gim_shape.specs.Shape.{shape_fault}
 use Rattle.gim_shape.specs.Limits.{limits_fault}

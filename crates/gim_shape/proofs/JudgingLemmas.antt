@@ -6,7 +6,8 @@ use Rattle.std.proofs.lemmas.List.Concat.{flat_map-cons}
 use Rattle.gim_text.specs.declared.fault.GimpleFault.{GimpleFault}
 use Rattle.gim_text.specs.declared.fault.GimpleKind.{GimpleKind}
 use Rattle.gim_text.specs.declared.fault.GimpleKind.TheVariants.{Memory}
-use Rattle.gim_text.specs.Faults.{first_fault, or_fault, IsFault, Judges}
+use Rattle.gim_text.specs.Faults.{IsFault, Judges}
+use Rattle.pm_places.specs.FirstFaults.{first_fault, or_fault}
 use Rattle.gim_shape.proofs.ListLemmas.{drop_step}
 
 pub fault_along : (kind : GimpleKind) (fault : GimpleFault) (a b : Option GimpleFault) → (a ≡ Some fault → b ≡ Some fault) → IsFault kind fault a → IsFault kind fault b

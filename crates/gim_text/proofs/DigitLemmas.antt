@@ -1,6 +1,6 @@
 -- A further digit makes no number less.
 use Rattle.std.proofs.Common.{ℕ, suc, ◌+◌, ◌*◌, ◌-◌, ◌<◌, ◌≤◌, List, [], ◌∷◌, length, get_or, drop, drop-cons, sym, subst, arith}
-use Rattle.gim_ast.specs.Numbers.{number_after}
+use Rattle.lexing.specs.Numbers.{number_after}
 
 pub number_grows : (n : ℕ) (ds : List ℕ) → n ≤ number_after n ds
 number_grows n [] = omega arith

@@ -1,7 +1,8 @@
 -- The bytes of a place in the source, and what names and numbers are by their bytes.
 use Rattle.std.specs.Prelude.{ℕ, ◌-◌, ◌==◌, ◌&&◌, Option, Some, None, List, [], ◌∷◌, take, drop, if◌then◌else◌}
-use Rattle.gim_ast.specs.Identifiers.{is_digit, is_number_text}
-use Rattle.gim_text.specs.declared.token.Span.{Span}
+use Rattle.lexing.specs.Bytes.{is_digit}
+use Rattle.lexing.specs.Numbers.{is_number_text}
+use Rattle.pm_places.specs.declared.span.Span.{Span}
 
 -- the bytes of a place
 abbrev pub text_of : List ℕ → Span → List ℕ

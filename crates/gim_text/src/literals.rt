@@ -2,11 +2,12 @@
 
 ghost use Rattle.std.specs.Prelude.{◌≡◌, ◌≤◌, ◌^◌, ◌+◌, ◌*◌, ◌-◌, ℕ, MatchOption};
 ghost use Rattle.pm_wide.specs.Types.{in_range};
-ghost use Rattle.gim_ast.specs.Numbers.{number_after};
-ghost use Rattle.gim_text.specs.Literals.{IsSize, signed, literal_type, literal_word, word_in};
+ghost use Rattle.lexing.specs.Numbers.{number_after, IsSize};
+ghost use Rattle.gim_text.specs.Literals.{signed, literal_type, literal_word, word_in};
 
-use crate::texts::{leading_digits, text};
 use crate::tree::{LiteralText, LiteralType};
+use lexing::leading_digits;
+use pm_places::text;
 use pm_wide::{IntType, Wide};
 
 /// A number with one digit more; none from 2 to the 128th on.

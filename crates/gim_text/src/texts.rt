@@ -2,11 +2,12 @@
 
 ghost use Rattle.std.specs.Prelude.{◌≡◌, ◌≤◌, ◌<◌, ◌-◌, ◌^◌, length, drop, option_map, slice_index, true, false};
 ghost use Rattle.std.specs.List.{list_all};
-ghost use Rattle.gim_ast.specs.Identifiers.{is_digit, is_number_text};
-ghost use Rattle.gim_ast.specs.Numbers.{capped, number_below};
-ghost use Rattle.gim_text.specs.Texts.{text_of, leading_digits, name_parts};
+ghost use Rattle.lexing.specs.Bytes.{is_digit};
+ghost use Rattle.lexing.specs.Numbers.{is_number_text, capped, number_below, leading_digits};
+ghost use Rattle.gim_text.specs.Texts.{name_parts};
+ghost use Rattle.pm_places.specs.Spans.{text_of};
 
-use crate::token::Span;
+use pm_places::Span;
 
 /// The bytes of a place in the source: as many of them as there are.
 pub fn text(source: &[u8], span: Span) -> &[u8]
@@ -58,7 +59,7 @@ fn capped(limit: u64, digits: &[u8]) -> u64
 }
 
 /// The number below the limit that the bytes write, without a leading zero.
-#[tactic(auto, unfolding(gim_ast::specs::Numbers::number_below))]
+#[tactic(auto, unfolding(lexing::specs::Numbers::number_below))]
 pub fn number_below(limit: u64, bytes: &[u8]) -> Option<u32>
     requires { limit ≤ 2 ^ 32 }
     ensures { result ≡ number_below limit bytes.now }

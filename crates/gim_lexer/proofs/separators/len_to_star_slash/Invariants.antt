@@ -1,5 +1,5 @@
 use Rattle.std.proofs.Common.{◌≡◌, ◌+◌, drop, option_map}
-use Rattle.gim_lexer.specs.Separators.{length_to_star_slash}
+use Rattle.lexing.specs.Separators.{length_to_star_slash}
 use Rattle.gim_lexer.proofs.separators.len_to_star_slash.Given as goal
 
 -- the end is behind what was passed

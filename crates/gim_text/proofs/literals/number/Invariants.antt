@@ -1,5 +1,5 @@
 use Rattle.std.proofs.Common.{◌≡◌, drop}
-use Rattle.gim_ast.specs.Numbers.{number_after}
+use Rattle.lexing.specs.Numbers.{number_after}
 use Rattle.gim_text.proofs.literals.number.Given as goal
 
 abbrev pub invariant-loop-digit : goal.invariant-loop-digit

@@ -1,5 +1,5 @@
 use Rattle.std.proofs.Common.{◌≡◌, ◌≤◌, ◌-◌, ◌++◌, length, drop, take}
-use Rattle.gim_text.specs.Texts.{leading_digits}
+use Rattle.lexing.specs.Numbers.{leading_digits}
 use Rattle.gim_text.proofs.texts.leading_digits.Given as goal
 
 abbrev pub invariant-loop-at : goal.invariant-loop-at
