@@ -1,0 +1,7 @@
+pub mod ByteLemmas
+pub mod Comments
+pub mod DigitLemmas
+pub mod NumberLemmas
+pub mod Opening
+pub mod Runs
+pub mod TableLemmas
