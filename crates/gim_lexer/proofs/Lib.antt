@@ -1,5 +1,3 @@
-pub mod StarSlash
-pub mod TableRows
 pub mod Fronts
 pub mod Cutting
 pub mod Steps

@@ -1,17 +1,15 @@
 //! The tokens of GIMPLE text, each as long as it can be, with their places.
 //!
 //! At a place there begins a separator (`separators`) or a token (`tokens`): a word (`words`), a number (`numbers`), a
-//! text or a mark (`marks`). `pieces` says which, and `lex` goes from one to the next. `bytes` has the runs of bytes that
-//! they stand on, `tables` the look-up of words and suffixes. `laws` has what holds of all tokens of a source.
+//! text or a mark (`marks`). `pieces` says which, and `lex` goes from one to the next. `laws` has what holds of all tokens
+//! of a source.
 #![tactic(auto)]
 
-mod bytes;
 pub mod laws;
 mod marks;
 mod numbers;
 mod pieces;
 mod separators;
-mod tables;
 mod tokens;
 mod words;
 

@@ -19,7 +19,7 @@ const RESERVED: [&str; 22] = [
 ];
 
 /// Whether the bytes are `__BB` and a number.
-fn is_block_word(bytes: &[u8]) -> bool
+pub fn is_block_word(bytes: &[u8]) -> bool
     ensures { result ≡ is_block_word bytes.now }
 {
     match bytes {
@@ -52,7 +52,7 @@ pub(crate) fn is_identifier(bytes: &[u8]) -> bool
 }
 
 /// Whether the bytes are a name without a base.
-pub(crate) fn is_anonymous(bytes: &[u8]) -> bool
+pub fn is_anonymous(bytes: &[u8]) -> bool
     ensures { result ≡ is_anonymous bytes.now }
 {
     match bytes {
