@@ -20,7 +20,7 @@ use Rattle.gim_lexer.specs.Numbers.{suffixes, suffix_kind, number_kind}
 use Rattle.gim_lexer.specs.Cuts.{AreTokens}
 use Rattle.gim_lexer.specs.Spelled.{Spells, AllStandIn}
 use Rattle.gim_lexer.specs.Meant.{IsNumberText, MeansItsText, AllMeanTheirTexts}
-use Rattle.gim_lexer.proofs.Placing.{tokens_stand}
+use Rattle.gim_lexer.proofs.Cutting.{tokens_stand}
 use Rattle.lexing.proofs.NumberLemmas.{front_digits}
 use Rattle.lexing.proofs.TableLemmas.{meaning_has}
 

@@ -8,6 +8,7 @@ use Rattle.gim_text.specs.declared.token.Token.TheVariants as tokens
 use Rattle.gim_text.specs.declared.token.NumberKind.{NumberKind}
 use Rattle.gim_text.specs.Meanings.{span_of}
 use Rattle.pm_places.specs.Spans.{text_of}
+use Rattle.lexing.specs.Cuts as cuts
 use Rattle.lexing.specs.Tables.{beside}
 use Rattle.gim_lexer.specs.Words.{type_word_of, keyword_of}
 use Rattle.gim_lexer.specs.Numbers.{number_kind}
@@ -41,15 +42,12 @@ Spells text (tokens.Text at) = IsQuoted text
 Spells text (tokens.Mark mark at) = (beside text long_marks ≡ Some mark) ⊎ (beside text short_marks ≡ Some mark)
 
 -- the token stands in the source, and its text spells it
-pub record StandsIn (source : List ℕ) (token : Token) : Type 0 where
-  pub has_bytes : (span_of token).from < (span_of token).to
-  pub within : (span_of token).to ≤ length source
-  pub spelled : Spells (text_of source (span_of token)) token
+abbrev pub StandsIn : List ℕ → Token → Type 0
+StandsIn source token = cuts.StandsIn Spells span_of source token
 
 abbrev pub AllStandIn : List ℕ → List Token → Type 0
 AllStandIn source tokens = AllByRecursion (StandsIn source) tokens
 
 -- the tokens stand one behind the other, from one place to another
 abbrev pub InOrder : ℕ → List Token → ℕ → Type 0
-InOrder from [] to = from ≤ to
-InOrder from (token ∷ tokens) to = (from ≤ (span_of token).from) × ((span_of token).from < (span_of token).to) × InOrder (span_of token).to tokens to
+InOrder from tokens to = cuts.InOrder span_of from tokens to

@@ -25,7 +25,7 @@ use Rattle.gim_making.specs.Types.{types_fault}
 use Rattle.gim_making.specs.Judged.{IsSound}
 use Rattle.gim_making.proofs.Sound.{sound_files}
 use Rattle.gim_lexer.proofs.NumberTexts.{tokens_mean}
-use Rattle.gim_lexer.proofs.Placing.{tokens_in_order}
+use Rattle.gim_lexer.proofs.Cutting.{tokens_in_order}
 use Rattle.gim_reader.proofs.OneFile.{stand_once}
 use Rattle.gim_reader.proofs.WrittenLemmas.{few_tokens, file_written}
 use Rattle.gim_reader.specs.Files.{file_limit, rules_fault, FromTokens, of_syntax, of_rules, of_lexing, of_tokens, IsRefusal, by_memory, by_fault, IsTokensRefusal, tokens_by_memory, tokens_by_fault}

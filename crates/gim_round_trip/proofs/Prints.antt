@@ -12,8 +12,9 @@ use Rattle.pm_places.specs.Spans.{text_of, place}
 use Rattle.gim_lexer.specs.Separators.{separator_length}
 use Rattle.lexing.specs.Separators.{is_space}
 use Rattle.gim_lexer.specs.Tokens.{token_of_text}
-use Rattle.gim_lexer.specs.Cuts.{line_begins, separator_at, token_at, Cuts, done, separator, token}
-use Rattle.gim_lexer.proofs.Cutting.{cuts_further}
+use Rattle.gim_lexer.specs.Cuts.{line_begins, separator_at, token_at, Cuts}
+use Rattle.lexing.specs.Cuts.{done, separator, token}
+use Rattle.lexing.proofs.Cutting.{cuts_further}
 use Rattle.gim_statements.specs.Grammar.{◌▸◌}
 use Rattle.gim_round_trip.proofs.Left.{Left, behind, text_there}
 

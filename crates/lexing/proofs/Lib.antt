@@ -1,5 +1,6 @@
 pub mod ByteLemmas
 pub mod Comments
+pub mod Cutting
 pub mod DigitLemmas
 pub mod NumberLemmas
 pub mod Opening
