@@ -5,7 +5,7 @@ use Rattle.std.specs.Prelude.{max, ◌==◌, not, ◌&&◌, ◌||◌}
 use Rattle.std.specs.List.{list_all}
 use Rattle.std.proofs.lemmas.Bool.{and_parts, and_from, not_from_false, eqb-true, false≢true}
 use Rattle.std.proofs.lemmas.List.{nil_from_length}
-use Rattle.gim_ast.specs.Identifiers.{is_word_byte}
+use Rattle.lexing.specs.Bytes.{is_word_byte}
 use Rattle.first_gimple.specs.Tokens.{Token, is_space, is_gap, is_token, begins_with_word_byte, ends_before, SpellsTokens}
 use Rattle.first_gimple.specs.Pieces.{lengthened, tokens_of}
 

@@ -4,8 +4,9 @@ use Rattle.std.specs.Prelude.{◌==◌}
 use Rattle.std.specs.List.{list_all}
 use Rattle.std.proofs.lemmas.Bool.{ne_eqb, eq-eqb, cond-true, cond-false}
 use Rattle.std.proofs.lemmas.List.{take-append-drop}
-use Rattle.gim_ast.specs.Identifiers.{is_digit}
-use Rattle.gim_ast.specs.Numbers.{number_below, name_below}
+use Rattle.lexing.specs.Bytes.{is_digit}
+use Rattle.gim_ast.specs.Numbers.{name_below}
+use Rattle.lexing.specs.Numbers.{number_below}
 use Rattle.gim_ast.proofs.NumberLemmas.{no_name_in_digits, no_name_at, name_with_version}
 
 -- a list, cut round the element before a place

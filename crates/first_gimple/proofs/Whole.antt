@@ -3,8 +3,8 @@ use Rattle.std.proofs.Common.{◌≡◌, ◌⊎◌, ℕ, zero, suc, ◌+◌, ◌
 use Rattle.std.specs.Str.{bytes_eq}
 use Rattle.std.specs.Fmt.{decimal}
 use Rattle.gim_ast.specs.Identifiers.{anonymous}
-use Rattle.gim_ast.specs.Numbers.{number_below}
-use Rattle.gim_ast.proofs.NumberLemmas.{number_below_is, number_below-decimal}
+use Rattle.lexing.specs.Numbers.{number_below}
+use Rattle.lexing.proofs.NumberLemmas.{number_below_is, number_below-decimal}
 use Rattle.first_gimple.specs.declared.draft.Draft.{Draft}
 use Rattle.first_gimple.specs.declared.draft.Line.{Line}
 use Rattle.first_gimple.specs.declared.draft.Taken.{Taken}

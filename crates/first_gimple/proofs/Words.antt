@@ -10,9 +10,12 @@ use Rattle.std.proofs.lemmas.Bool.Decides.{nat_tests}
 use Rattle.std.proofs.lemmas.List.{take_at, length-append}
 use Rattle.pm_ops.specs.declared.code.Code.{Code}
 use Rattle.pm_ops.specs.declared.code.Code.TheVariants.{Convert, Plus, Minus, Mult, TruncDiv, TruncMod, Negate, Abs, Absu, BitAnd, BitIor, BitXor, BitNot, Lshift, Rshift, Min, Max, Eq, Ne, Lt, Le, Gt, Ge, Cond}
-use Rattle.gim_ast.specs.Identifiers.{is_digit, anonymous}
-use Rattle.gim_ast.specs.Numbers.{number_below, name_below}
-use Rattle.gim_ast.proofs.NumberLemmas.{number_below_is, number_below-decimal, name_below_is, name_below-anonymous, decimal_digits}
+use Rattle.gim_ast.specs.Identifiers.{anonymous}
+use Rattle.lexing.specs.Bytes.{is_digit}
+use Rattle.gim_ast.specs.Numbers.{name_below}
+use Rattle.lexing.specs.Numbers.{number_below}
+use Rattle.gim_ast.proofs.NumberLemmas.{name_below_is, name_below-anonymous}
+use Rattle.lexing.proofs.NumberLemmas.{number_below_is, number_below-decimal, decimal_digits}
 use Rattle.first_gimple.specs.Tokens.{Token}
 use Rattle.first_gimple.specs.Reading.{then_read, fixed, token_at, literal_of, local_from, local_of, code_of, meant_at, type_at, mark_at}
 use Rattle.first_gimple.specs.Spelling.{versions, is_suffix, operator_of}

@@ -1,6 +1,6 @@
 -- A text cut into its tokens, from the right to the left.
 use Rattle.std.specs.Prelude.{ℕ, ◌&&◌, List, [], ◌∷◌, if◌then◌else◌}
-use Rattle.gim_ast.specs.Identifiers.{is_word_byte}
+use Rattle.lexing.specs.Bytes.{is_word_byte}
 use Rattle.first_gimple.specs.Tokens.{Token, is_space, begins_with_word_byte}
 
 -- the tokens with one byte more at the head of the first

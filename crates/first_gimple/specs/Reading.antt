@@ -3,7 +3,8 @@ use Rattle.std.specs.Prelude.{◌≡◌, ℕ, zero, suc, ◌-◌, ◌^◌, Optio
 use Rattle.std.specs.Str.{bytes_eq}
 use Rattle.pm_ops.specs.declared.code.Code.{Code}
 use Rattle.pm_ops.specs.declared.code.Code.TheVariants.{Plus, Minus, Mult, BitAnd, BitIor, BitXor}
-use Rattle.gim_ast.specs.Numbers.{number_below, name_below}
+use Rattle.gim_ast.specs.Numbers.{name_below}
+use Rattle.lexing.specs.Numbers.{number_below}
 use Rattle.first_gimple.specs.declared.fault.FirstFault.{FirstFault}
 use Rattle.first_gimple.specs.declared.fault.FirstFault.TheVariants.{NotFirst, Memory}
 use Rattle.first_gimple.specs.declared.draft.Draft.{Draft}

@@ -2,7 +2,7 @@
 -- a number with its suffix), or one other byte, a mark.
 use Rattle.std.specs.Prelude.{◌≡◌, ℕ, ◌==◌, nat_le, Bool, false, not, ◌&&◌, ◌||◌, IsTrue, List, [], ◌∷◌, ◌++◌}
 use Rattle.std.specs.List.{list_all}
-use Rattle.gim_ast.specs.Identifiers.{is_word_byte}
+use Rattle.lexing.specs.Bytes.{is_word_byte}
 
 abbrev pub Token : Type 0
 Token = List ℕ

@@ -3,7 +3,9 @@
 ghost use Rattle.std.specs.Prelude.{◌≡◌, ◌&&◌, not};
 ghost use Rattle.std.specs.List.{list_all, list_any};
 ghost use Rattle.std.specs.Str.{bytes_eq};
-ghost use Rattle.gim_ast.specs.Identifiers.{is_letter, is_word_byte, is_word_text, is_block_word, is_reserved, is_identifier, is_anonymous};
+ghost use Rattle.gim_ast.specs.Identifiers.{is_block_word, is_reserved, is_identifier, is_anonymous};
+ghost use Rattle.lexing.specs.Bytes.{is_letter, is_word_byte};
+ghost use Rattle.lexing.specs.Words.{is_word_text};
 ghost use Rattle.first_gimple.specs.Rules.{is_param};
 
 use crate::numbers::is_number_text;

@@ -2,8 +2,9 @@
 
 ghost use Rattle.std.specs.Prelude.{◌≡◌, ◌≤◌, ◌<◌, ◌-◌, ◌^◌, length, drop, option_map, slice_index, ℕ, true, false};
 ghost use Rattle.std.specs.List.{list_all};
-ghost use Rattle.gim_ast.specs.Identifiers.{is_digit, is_number_text};
-ghost use Rattle.gim_ast.specs.Numbers.{capped, number_below, name_below};
+ghost use Rattle.lexing.specs.Bytes.{is_digit};
+ghost use Rattle.lexing.specs.Numbers.{is_number_text, capped, number_below};
+ghost use Rattle.gim_ast.specs.Numbers.{name_below};
 ghost use Rattle.first_gimple.specs.Reading.{literal_of};
 
 use crate::tokens::is_digit;
@@ -47,7 +48,7 @@ fn capped(limit: u64, digits: &[u8]) -> u64
 }
 
 /// The number below the limit that the bytes write, without a leading zero.
-#[tactic(auto, unfolding(gim_ast::specs::Numbers::number_below))]
+#[tactic(auto, unfolding(lexing::specs::Numbers::number_below))]
 pub(crate) fn number_below(limit: u64, bytes: &[u8]) -> Option<u32>
     requires { limit ≤ 2 ^ 32 }
     ensures { result ≡ number_below limit bytes.now }

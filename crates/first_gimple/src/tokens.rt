@@ -1,7 +1,7 @@
 //! Tokens, cut off the front of a text.
 
 ghost use Rattle.std.specs.Prelude.{◌≡◌, ◌∷◌, [], ◌<◌, ◌≤◌, length, drop, slice_index, true, false, MatchOption, ℕ};
-ghost use Rattle.gim_ast.specs.Identifiers.{is_digit, is_letter, is_word_byte};
+ghost use Rattle.lexing.specs.Bytes.{is_digit, is_letter, is_word_byte};
 ghost use Rattle.first_gimple.specs.Tokens.{is_space};
 ghost use Rattle.first_gimple.specs.Pieces.{tokens_of};
 

@@ -1,29 +1,10 @@
 -- Identifiers of GIMPLE text: which byte lists they are, which are reserved, and which are anonymous names.
-use Rattle.std.specs.Prelude.{ℕ, ◌==◌, nat_le, Bool, false, not, ◌&&◌, ◌||◌, List, [], ◌∷◌, codes}
-use Rattle.std.specs.List.{list_any, list_all}
+use Rattle.std.specs.Prelude.{ℕ, ◌==◌, Bool, false, not, ◌&&◌, ◌||◌, List, [], ◌∷◌, codes}
+use Rattle.std.specs.List.{list_any}
 use Rattle.std.specs.Cmp.Lexicographic.{pointwise}
 use Rattle.std.specs.Fmt.{decimal}
-
-abbrev pub is_digit : ℕ → Bool
-is_digit b = nat_le 48 b && nat_le b 57
-
--- a letter or an underscore
-abbrev pub is_letter : ℕ → Bool
-is_letter b = (nat_le 65 b && nat_le b 90) || (nat_le 97 b && nat_le b 122) || (b == 95)
-
-abbrev pub is_word_byte : ℕ → Bool
-is_word_byte b = is_letter b || is_digit b
-
--- letters, digits and underscores, not beginning with a digit
-abbrev pub is_word_text : List ℕ → Bool
-is_word_text [] = false
-is_word_text (b ∷ bs) = is_letter b && list_all is_word_byte bs
-
--- digits without a leading zero, one at least
-abbrev pub is_number_text : List ℕ → Bool
-is_number_text [] = false
-is_number_text (b ∷ []) = is_digit b
-is_number_text (b ∷ c ∷ bs) = is_digit b && not (b == 48) && list_all is_digit (c ∷ bs)
+use Rattle.lexing.specs.Numbers.{is_number_text}
+use Rattle.lexing.specs.Words.{is_word_text}
 
 -- the words of types and of the grammar
 abbrev pub reserved_words : List (List ℕ)

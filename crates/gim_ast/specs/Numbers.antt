@@ -1,20 +1,6 @@
--- Numbers below a limit, and names, as they are read from their bytes.
-use Rattle.std.specs.Prelude.{ℕ, ◌+◌, ◌*◌, ◌-◌, ◌==◌, nat_lt, min, Option, Some, None, option_map, List, [], ◌∷◌, if◌then◌else◌}
-use Rattle.gim_ast.specs.Identifiers.{is_number_text}
-
--- the number that digits write behind those of another
-abbrev pub number_after : ℕ → List ℕ → ℕ
-number_after n [] = n
-number_after n (digit ∷ digits) = number_after (10 * n + (digit - 48)) digits
-
--- the same, or the limit as soon as it is as great
-abbrev pub capped : ℕ → ℕ → List ℕ → ℕ
-capped limit n [] = n
-capped limit n (digit ∷ digits) = capped limit (min (10 * n + (digit - 48)) limit) digits
-
--- the number, where the bytes write one below the limit, without a leading zero
-unfoldable pub number_below : ℕ → List ℕ → Option ℕ
-number_below limit bytes = if is_number_text bytes then (if nat_lt (capped limit 0 bytes) limit then Some (capped limit 0 bytes) else None) else None
+-- Names, as they are read from their bytes.
+use Rattle.std.specs.Prelude.{ℕ, ◌==◌, Option, Some, None, option_map, List, [], ◌∷◌, if◌then◌else◌}
+use Rattle.lexing.specs.Numbers.{number_below}
 
 -- a byte before a name, or an underscore before a version
 abbrev pub name_from : ℕ → Option (List ℕ × ℕ) → Option ℕ → Option (List ℕ × ℕ)

@@ -12,6 +12,8 @@ mod operands;
 mod rows;
 mod uses;
 
+pub use identifiers::{is_anonymous, is_block_word};
+
 use crate::Function;
 
 impl Function {

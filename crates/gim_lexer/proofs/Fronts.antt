@@ -1,41 +1,36 @@
 -- What begins a text: how long it is, and which bytes it has.
-use Rattle.std.proofs.Common.{◌≡◌, ℕ, suc, ◌+◌, ◌-◌, ◌<◌, ◌≤◌, Bool, true, false, cond, List, [], ◌∷◌, ◌++◌, length, take, drop, codes, Option, Some, None, refl, sym, ap, ◌∙◌, subst, arith, inl, inr, one-add}
-use Rattle.std.specs.Prelude.{option_map, find, map, ◌==◌, ◌||◌, ◌&&◌, not}
+use Rattle.std.proofs.Common.{◌≡◌, ℕ, suc, ◌+◌, ◌-◌, ◌<◌, ◌≤◌, Bool, true, false, cond, List, [], ◌∷◌, ◌++◌, length, take, drop, codes, Option, Some, None, refl, sym, ap, ◌∙◌, subst, arith, inl, inr}
+use Rattle.std.specs.Prelude.{map, ◌==◌, ◌||◌, ◌&&◌, not}
 use Rattle.std.specs.List.{prefix_len, list_all, list_any}
 use Rattle.std.specs.Str.{bytes_eq}
 use Rattle.std.specs.Cmp.Lexicographic.{bytes_decides}
-use Rattle.std.proofs.lemmas.Bool.{and_parts, and_from, or_from, false≢true, eqb-true}
+use Rattle.std.proofs.lemmas.Bool.{and_from, or_from, false≢true, eqb-true}
 use Rattle.std.proofs.lemmas.List.{length-drop, length-take-le}
 use Rattle.std.proofs.lemmas.List.Sums.{prefix_len-le-length}
 use Rattle.std.proofs.lemmas.List.Folds.{list_any-append}
 use Rattle.std.proofs.Math.Seq.{take-add}
-use Rattle.gim_ast.specs.Identifiers.{is_digit, is_letter, is_word_byte, is_word_text, is_block_word, is_reserved, reserved_words}
-use Rattle.gim_text.specs.declared.token.Span.{Span}
+use Rattle.gim_ast.specs.Identifiers.{is_block_word, is_reserved, reserved_words}
+use Rattle.lexing.specs.Bytes.{is_digit, is_letter, is_word_byte, is_suffix_letter, is_inner}
+use Rattle.lexing.specs.Words.{is_word_text}
+use Rattle.pm_places.specs.declared.span.Span.{Span}
 use Rattle.gim_text.specs.declared.token.Token.{Token}
 use Rattle.gim_text.specs.declared.token.Token.TheVariants as tokens
 use Rattle.gim_text.specs.declared.token.TypeWord.{TypeWord}
 use Rattle.gim_text.specs.declared.token.Keyword.{Keyword}
 use Rattle.gim_text.specs.declared.token.Mark.{Mark as MarkKind}
 use Rattle.gim_text.specs.Meanings.{span_of}
-use Rattle.gim_lexer.specs.Tables.{beside}
 use Rattle.gim_lexer.specs.Words.{type_words, keyword_table, type_word_of, keyword_of, plain_word, word_from, word_token}
-use Rattle.gim_lexer.specs.Numbers.{is_suffix_letter}
 use Rattle.gim_lexer.specs.Marks.{short_mark, long_mark}
-use Rattle.gim_lexer.specs.Separators.{opens, begins_with_space, opens_note, is_no_line_feed, line_length, length_to_star_slash, separator_length}
-use Rattle.gim_lexer.specs.Tokens.{place, is_inner, word_at, number_at, text_at, mark_from, mark_at, token_of_text}
+use Rattle.gim_lexer.specs.Separators.{opens_note, separator_length}
+use Rattle.lexing.specs.Separators.{opens, begins_with_space, is_no_line_feed, line_length, comment_length}
+use Rattle.gim_lexer.specs.Tokens.{word_at, number_at, text_at, mark_from, mark_at, token_of_text}
+use Rattle.pm_places.specs.Spans.{place}
 use Rattle.gim_lexer.specs.Spelled.{Spells}
-
--- ---- runs of bytes
-
-run_passes : (p : ℕ → Bool) (text : List ℕ) → list_all p (take (prefix_len p text) text) ≡ true
-run_passes p [] = refl
-run_passes p (b ∷ text) = by (p b) refl (run_passes p text) where
-  by : (t : Bool) → p b ≡ t → list_all p (take (prefix_len p text) text) ≡ true → list_all p (take (cond t (1 + prefix_len p text) 0) (b ∷ text)) ≡ true
-  by true h all = rw one-add (and_from (p b) (list_all p (take (prefix_len p text) text)) h all)
-  by false h all = refl
-
-run_begins : (p : ℕ → Bool) (b : ℕ) (text : List ℕ) → p b ≡ true → prefix_len p (b ∷ text) ≡ suc (prefix_len p text)
-run_begins p b text h = rw (h, one-add) refl
+use Rattle.lexing.proofs.ByteLemmas.{letter_is_word}
+use Rattle.lexing.proofs.Comments.{comment_within}
+use Rattle.lexing.proofs.Opening.{opens_long, opens_first}
+use Rattle.lexing.proofs.Runs.{run_passes, run_begins}
+use Rattle.lexing.proofs.TableLemmas.{none_among}
 
 some_is : {X : Type 0} (x y : X) → Some x ≡ Some y → x ≡ y
 some_is x y e = cc
@@ -43,24 +38,7 @@ some_is x y e = cc
 same_bytes : (a b : List ℕ) → bytes_eq a b ≡ true → a ≡ b
 same_bytes a b h = (bytes_decides a b).0 h
 
-opens_long : (text word : List ℕ) → opens text word ≡ true → length word ≤ length text
-opens_long text [] h = omega arith
-opens_long [] (w ∷ word) h = absurd (false≢true h)
-opens_long (b ∷ text) (w ∷ word) h = omega (arith, opens_long text word (and_parts (w == b) (opens text word) h).1)
-
-opens_first : (b w : ℕ) (text word : List ℕ) → opens (b ∷ text) (w ∷ word) ≡ true → w ≡ b
-opens_first b w text word h = eqb-true w b (and_parts (w == b) (opens text word) h).0
-
 -- ---- separators
-
-pub to_star_slash_within : (text : List ℕ) (n : ℕ) → length_to_star_slash text ≡ Some n → n ≤ length text
-unfolding length_to_star_slash
-to_star_slash_within [] n e = absurd cc
-to_star_slash_within (b ∷ text) n e = by (opens (b ∷ text) (codes "*/")) (length_to_star_slash text) (opens_long (b ∷ text) (codes "*/")) (to_star_slash_within text) e where
-  by : (t : Bool) (o : Option ℕ) → (t ≡ true → 2 ≤ length (b ∷ text)) → ((m : ℕ) → o ≡ Some m → m ≤ length text) → cond t (Some 2) (option_map (λ n. 1 + n) o) ≡ Some n → n ≤ length (b ∷ text)
-  by true o long later e = omega (arith, long refl, some_is 2 n e)
-  by false None long later e = absurd cc
-  by false (Some m) long later e = omega (arith, later m refl, some_is (1 + m) n e)
 
 note_first : (line_begins : Bool) (b : ℕ) (text : List ℕ) → opens_note line_begins (b ∷ text) ≡ true → is_no_line_feed b ≡ true
 note_first line_begins b text h = by (opens (b ∷ text) (codes "//")) line_begins (opens (b ∷ text) (codes ";;")) refl refl h where
@@ -84,20 +62,12 @@ space_long (b ∷ text) h = omega arith
 pub separator_within : (line_begins : Bool) (text : List ℕ) (n : ℕ) → separator_length line_begins text ≡ Some n → (0 < n) × (n ≤ length text)
 unfolding separator_length
 separator_within line_begins text n e =
-    by (begins_with_space text) (opens_note line_begins text) (opens text (codes "/*")) (length_to_star_slash (drop 2 text))
-    (space_long text) (note_within line_begins text) (opens_long text (codes "/*")) (to_star_slash_within (drop 2 text)) e where
-      by : (s t u : Bool) (o : Option ℕ) → (s ≡ true → 0 < length text) → (t ≡ true → (0 < line_length text) × (line_length text ≤ length text)) → (u ≡ true → 2 ≤ length text)
-          → ((m : ℕ) → o ≡ Some m → m ≤ length (drop 2 text)) → cond s (Some 1) (cond t (Some (line_length text)) (cond u (option_map (λ n. 2 + n) o) None)) ≡ Some n → (0 < n) × (n ≤ length text)
-      by true t u o space note comment within e = let same : 1 ≡ n = some_is 1 n e in let long = space refl in (omega arith, omega arith)
-      by false true u o space note comment within e = let same : line_length text ≡ n = some_is (line_length text) n e in let w = note refl in (omega (arith, w), omega (arith, w))
-      by false false true (Some m) space note comment within e =
-          let same : 2 + m ≡ n = some_is (2 + m) n e in
-          let w = within m refl in
-          let long = comment refl in
-          let rest : length (drop 2 text) ≡ length text - 2 = length-drop 2 text in
-          (omega arith, omega arith)
-      by false false true None space note comment within e = absurd cc
-      by false false false o space note comment within e = absurd cc
+    by (begins_with_space text) (opens_note line_begins text) (space_long text) (note_within line_begins text) e where
+      by : (s t : Bool) → (s ≡ true → 0 < length text) → (t ≡ true → (0 < line_length text) × (line_length text ≤ length text))
+          → cond s (Some 1) (cond t (Some (line_length text)) (comment_length text)) ≡ Some n → (0 < n) × (n ≤ length text)
+      by true t space note e = let same : 1 ≡ n = some_is 1 n e in let long = space refl in (omega arith, omega arith)
+      by false true space note e = let same : line_length text ≡ n = some_is (line_length text) n e in let w = note refl in (omega (arith, w), omega (arith, w))
+      by false false space note e = comment_within text n e
 
 -- ---- words
 
@@ -108,14 +78,6 @@ pub record Front (at : ℕ) (text : List ℕ) (t : Token) : Type 0 where
   pub long : 0 < len
   pub within : len ≤ length text
   pub spelled : Spells (take len text) t
-
-none_among : {X : Type 0} (word : List ℕ) (table : List (List ℕ × X)) → beside word table ≡ None → list_any (λ w. bytes_eq w word) (map (λ (row : List ℕ × X). row.0) table) ≡ false
-none_among word [] h = refl
-none_among {X} word (row ∷ table) h = by (bytes_eq row.0 word) (none_among word table) h where
-  by : (t : Bool) → (beside word table ≡ None → list_any (λ w. bytes_eq w word) (map (λ (row : List ℕ × X). row.0) table) ≡ false)
-      → option_map (λ (r : List ℕ × X). r.1) (cond t (Some row) (find (λ (r : List ℕ × X). bytes_eq r.0 word) table)) ≡ None → (t || list_any (λ w. bytes_eq w word) (map (λ (row : List ℕ × X). row.0) table)) ≡ false
-  by true later h = absurd cc
-  by false later h = later h
 
 not_reserved : (word : List ℕ) → type_word_of word ≡ None → keyword_of word ≡ None → is_block_word word ≡ false → is_reserved word ≡ false
 not_reserved word t k b =
@@ -155,9 +117,6 @@ word_spelled word span text = by (type_word_of word) (keyword_of word) refl refl
   by (Some found) k p q = p
   by None (Some found) p q = q
   by None None p q = plain_spelled word span text p q
-
-pub letter_is_word : (b : ℕ) → is_letter b ≡ true → is_word_byte b ≡ true
-letter_is_word b h = rw h refl
 
 word_front : (at b : ℕ) (text : List ℕ) → is_letter b ≡ true → Front at (b ∷ text) (word_at at (b ∷ text))
 unfolding word_at

@@ -1,48 +1,34 @@
 -- The token that begins a text is the longest front that spells one.
-use Rattle.std.proofs.Common.{◌≡◌, ℕ, zero, suc, ◌+◌, ◌-◌, ◌<◌, ◌≤◌, Bool, true, false, cond, List, [], ◌∷◌, ◌++◌, length, take, drop, codes, Option, Some, None, refl, sym, ap, ◌∙◌, subst, arith, ◌⊎◌, inl, inr, one-add}
-use Rattle.std.specs.Prelude.{option_map, find, ◌==◌, ◌&&◌, not}
+use Rattle.std.proofs.Common.{◌≡◌, ℕ, zero, suc, ◌+◌, ◌-◌, ◌<◌, ◌≤◌, Bool, true, false, cond, List, [], ◌∷◌, ◌++◌, length, take, drop, codes, Option, Some, None, refl, sym, ap, ◌∙◌, subst, arith, ◌⊎◌, inl, inr}
+use Rattle.std.specs.Prelude.{◌==◌, ◌&&◌, not}
 use Rattle.std.specs.List.{prefix_len, list_all}
-use Rattle.std.specs.Str.{bytes_eq}
-use Rattle.std.specs.Cmp.Lexicographic.{bytes_decides}
-use Rattle.std.proofs.lemmas.Bool.{and_parts, and_from, false≢true, eqb-true, or_right}
-use Rattle.std.proofs.lemmas.Bool.Decides.{nat_tests}
+use Rattle.std.proofs.lemmas.Bool.{and_parts, and_from, false≢true, eqb-true}
 use Rattle.std.proofs.lemmas.List.{length-drop, length-take-le, length-append}
-use Rattle.gim_ast.specs.Identifiers.{is_digit, is_letter, is_word_byte, is_word_text, is_number_text, is_block_word, is_reserved}
-use Rattle.gim_text.specs.declared.token.Span.{Span}
+use Rattle.gim_ast.specs.Identifiers.{is_block_word, is_reserved}
+use Rattle.lexing.specs.Bytes.{is_digit, is_letter, is_word_byte, is_suffix_letter, is_inner}
+use Rattle.lexing.specs.Words.{is_word_text}
+use Rattle.lexing.specs.Numbers.{is_number_text}
+use Rattle.pm_places.specs.declared.span.Span.{Span}
 use Rattle.gim_text.specs.declared.token.Token.{Token}
 use Rattle.gim_text.specs.declared.token.Token.TheVariants as tokens
 use Rattle.gim_text.specs.declared.token.NumberKind.{NumberKind}
 use Rattle.gim_text.specs.declared.token.Mark.{Mark as MarkKind}
 use Rattle.gim_text.specs.Meanings.{span_of}
-use Rattle.gim_lexer.specs.Tables.{beside}
+use Rattle.lexing.specs.Tables.{beside}
 use Rattle.gim_lexer.specs.Words.{type_words, keyword_table}
-use Rattle.gim_lexer.specs.Numbers.{is_suffix_letter}
 use Rattle.gim_lexer.specs.Marks.{short_mark, long_mark, short_marks, long_marks}
-use Rattle.gim_lexer.specs.Separators.{opens}
-use Rattle.gim_lexer.specs.Tokens.{place, is_inner, word_at, number_at, text_at, mark_from, mark_at, token_of_text}
+use Rattle.lexing.specs.Separators.{opens}
+use Rattle.gim_lexer.specs.Tokens.{word_at, number_at, text_at, mark_from, mark_at, token_of_text}
+use Rattle.pm_places.specs.Spans.{place}
 use Rattle.gim_lexer.specs.Spelled.{IsNumber, IsQuoted, Spells}
 use Rattle.gim_lexer.specs.Longest.{Covers, OpensComment, IsLongestMatch}
-use Rattle.gim_lexer.proofs.Fronts.{word_place, letter_is_word}
-use Rattle.gim_lexer.proofs.NumberTexts.{letter_is_no_digit}
+use Rattle.gim_lexer.proofs.Fronts.{word_place}
+use Rattle.lexing.proofs.ByteLemmas.{letter_is_word, letter_is_no_digit, digit_is_no_letter}
+use Rattle.lexing.proofs.NumberLemmas.{number_is_word}
+use Rattle.lexing.proofs.Runs.{run_begins, no_run, within_run}
+use Rattle.lexing.proofs.TableLemmas.{beside_passes}
 
 -- ---- runs
-
--- a front of bytes that pass is within the run
-within_run : (p : ℕ → Bool) (text : List ℕ) (m : ℕ) → m ≤ length text → list_all p (take m text) ≡ true → m ≤ prefix_len p text
-within_run p text zero le h = omega arith
-within_run p [] (suc m) le h = absurd (omega arith)
-within_run p (b ∷ text) (suc m) le h =
-    let parts = and_parts (p b) (list_all p (take m text)) h in
-    by (p b) parts.0 (within_run p text m (omega arith) parts.1) where
-      by : (t : Bool) → t ≡ true → m ≤ prefix_len p text → suc m ≤ cond t (1 + prefix_len p text) 0
-      by true e later = omega arith
-      by false e later = absurd (false≢true e)
-
-no_run : (p : ℕ → Bool) (b : ℕ) (text : List ℕ) → p b ≡ false → prefix_len p (b ∷ text) ≡ 0
-no_run p b text h = rw h refl
-
-one_more : (p : ℕ → Bool) (b : ℕ) (text : List ℕ) → p b ≡ true → prefix_len p (b ∷ text) ≡ suc (prefix_len p text)
-one_more p b text h = rw (h, one-add) refl
 
 -- digits and then letters of suffixes
 number_run : List ℕ → ℕ
@@ -66,7 +52,7 @@ number_within (b ∷ text) (d ∷ digits) suffix (suc m) le e ds ls =
     let same : b ≡ d = cc in
     let rest : take m text ≡ digits ++ suffix = cc in
     let parts = and_parts (is_digit d) (list_all is_digit digits) ds in
-    let more : prefix_len is_digit (b ∷ text) ≡ suc (prefix_len is_digit text) = one_more is_digit b text (ap is_digit same ∙ parts.0) in
+    let more : prefix_len is_digit (b ∷ text) ≡ suc (prefix_len is_digit text) = run_begins is_digit b text (ap is_digit same ∙ parts.0) in
     let later = number_within text digits suffix m (omega arith) rest parts.1 ls in
     rw more (omega (arith, later))
 
@@ -83,21 +69,9 @@ quoted_run (b ∷ rest) (i ∷ inner) (suc k) e h =
     let same : b ≡ i = cc in
     let left : take k rest ≡ inner ++ 34 ∷ [] = cc in
     let parts = and_parts (is_inner i) (list_all is_inner inner) h in
-    let more : prefix_len is_inner (b ∷ rest) ≡ suc (prefix_len is_inner rest) = one_more is_inner b rest (ap is_inner same ∙ parts.0) in
+    let more : prefix_len is_inner (b ∷ rest) ≡ suc (prefix_len is_inner rest) = run_begins is_inner b rest (ap is_inner same ∙ parts.0) in
     let later = quoted_run rest inner k left parts.1 in
     (more ∙ ap suc later.0, ap (λ n. opens (drop n (b ∷ rest)) (codes "\"")) more ∙ later.1)
-
--- ---- tables
-
-beside_passes : {X : Type 0} (p : List ℕ → Bool) (table : List (List ℕ × X)) (bytes : List ℕ) (x : X) → beside bytes table ≡ Some x → list_all (λ (row : List ℕ × X). p row.0) table ≡ true → p bytes ≡ true
-beside_passes p [] bytes x e h = absurd cc
-beside_passes {X} p (row ∷ table) bytes x e h =
-    let parts = and_parts (p row.0) (list_all (λ (row : List ℕ × X). p row.0) table) h in
-    by (bytes_eq row.0 bytes) refl e parts.0 (λ e. beside_passes p table bytes x e parts.1) where
-      by : (t : Bool) → bytes_eq row.0 bytes ≡ t → option_map (λ (r : List ℕ × X). r.1) (cond t (Some row) (find (λ (r : List ℕ × X). bytes_eq r.0 bytes) table)) ≡ Some x
-          → p row.0 ≡ true → (beside bytes table ≡ Some x → p bytes ≡ true) → p bytes ≡ true
-      by true same e first later = ap p (sym ((bytes_decides row.0 bytes).0 same)) ∙ first
-      by false same e first later = later e
 
 -- a byte that begins no word, number or text
 is_odd : ℕ → Bool
@@ -112,19 +86,6 @@ is_double (a ∷ b ∷ []) = is_odd a
 is_double bytes = false
 
 -- ---- words
-
-digits_are_words : (digits : List ℕ) → list_all is_digit digits ≡ true → list_all is_word_byte digits ≡ true
-digits_are_words [] h = refl
-digits_are_words (d ∷ digits) h =
-    let parts = and_parts (is_digit d) (list_all is_digit digits) h in
-    and_from (is_word_byte d) (list_all is_word_byte digits) (or_right (is_letter d) (is_digit d) parts.0) (digits_are_words digits parts.1)
-
-pub number_is_word : (bytes : List ℕ) → is_number_text bytes ≡ true → list_all is_word_byte bytes ≡ true
-number_is_word [] h = refl
-number_is_word (b ∷ []) h = digits_are_words (b ∷ []) (and_from (is_digit b) true h refl)
-number_is_word (b ∷ c ∷ bytes) h =
-    let parts = and_parts (is_digit b && not (b == 48)) (list_all is_digit (c ∷ bytes)) h in
-    digits_are_words (b ∷ c ∷ bytes) (and_from (is_digit b) (list_all is_digit (c ∷ bytes)) (and_parts (is_digit b) (not (b == 48)) parts.0).0 parts.1)
 
 block_is_word : (bytes : List ℕ) → is_block_word bytes ≡ true → is_word_text bytes ≡ true
 block_is_word [] h = absurd (false≢true h)
@@ -165,9 +126,6 @@ word_reaches at (b ∷ text) (suc m) le h =
       begins = word_begins at b text parts.0;
       far = omega (arith, within_run is_word_byte (b ∷ text) (suc m) le all, word_end at (b ∷ text));
     }
-
-pub digit_is_no_letter : (b : ℕ) → is_digit b ≡ true → is_letter b ≡ false
-digit_is_no_letter b h = grind (arith, nat_tests)
 
 pub number_begins : (at b : ℕ) (text : List ℕ) → is_digit b ≡ true → token_of_text at (b ∷ text) ≡ Some (number_at at (b ∷ text))
 unfolding token_of_text

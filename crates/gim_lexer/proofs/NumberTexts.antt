@@ -1,47 +1,28 @@
 -- Texts of numbers, and of the other tokens that have a meaning.
-use Rattle.std.proofs.Common.{◌≡◌, ℕ, Bool, true, false, cond, List, [], ◌∷◌, ◌++◌, drop, Option, Some, None, refl, sym, ap, ◌∙◌, subst, arith}
-use Rattle.std.specs.Prelude.{IsTrue, option_map, unwrap_or, find}
+use Rattle.std.proofs.Common.{◌≡◌, ℕ, Bool, true, false, cond, List, [], ◌∷◌, ◌++◌, drop, Option, Some, None, refl, sym, ap, ◌∙◌, subst}
+use Rattle.std.specs.Prelude.{IsTrue, unwrap_or}
 use Rattle.std.specs.List.{list_all}
 use Rattle.std.specs.Str.{str_eq_ignore_ascii_case}
-use Rattle.std.proofs.lemmas.Bool.{and_parts, false≢true}
-use Rattle.std.proofs.lemmas.Bool.Decides.{nat_tests}
+use Rattle.std.proofs.lemmas.Bool.{false≢true}
 use Rattle.std.proofs.lemmas.List.{append-nil}
-use Rattle.gim_ast.specs.Identifiers.{is_digit, is_number_text, is_identifier, is_block_word}
-use Rattle.gim_text.specs.declared.token.Span.{Span}
+use Rattle.gim_ast.specs.Identifiers.{is_identifier, is_block_word}
+use Rattle.lexing.specs.Bytes.{is_digit, is_suffix_letter}
+use Rattle.lexing.specs.Numbers.{is_number_text, leading_digits}
+use Rattle.pm_places.specs.declared.span.Span.{Span}
 use Rattle.gim_text.specs.declared.token.Token.{Token}
 use Rattle.gim_text.specs.declared.token.Token.TheVariants as tokens
 use Rattle.gim_text.specs.declared.token.NumberKind.{NumberKind}
 use Rattle.gim_text.specs.declared.token.NumberKind.TheVariants.{Plain, Unsigned, Long, UnsignedLong, Wrong}
 use Rattle.gim_text.specs.Meanings.{span_of}
-use Rattle.gim_text.specs.Texts.{text_of, leading_digits}
-use Rattle.gim_lexer.specs.Tables.{meaning_of, beside_in_any_case}
-use Rattle.gim_lexer.specs.Numbers.{is_suffix_letter, suffixes, suffix_kind, number_kind}
+use Rattle.pm_places.specs.Spans.{text_of}
+use Rattle.lexing.specs.Tables.{beside_in_any_case}
+use Rattle.gim_lexer.specs.Numbers.{suffixes, suffix_kind, number_kind}
 use Rattle.gim_lexer.specs.Cuts.{AreTokens}
 use Rattle.gim_lexer.specs.Spelled.{Spells, AllStandIn}
 use Rattle.gim_lexer.specs.Meant.{IsNumberText, MeansItsText, AllMeanTheirTexts}
-use Rattle.gim_lexer.proofs.Placing.{tokens_stand}
-
-pub letter_is_no_digit : (b : ℕ) → is_suffix_letter b ≡ true → is_digit b ≡ false
-letter_is_no_digit b h = grind (arith, nat_tests)
-
-pub front_digits : (digits suffix : List ℕ) → list_all is_digit digits ≡ true → list_all is_suffix_letter suffix ≡ true → leading_digits (digits ++ suffix) ≡ digits
-front_digits [] [] ds ls = refl
-front_digits [] (b ∷ suffix) ds ls = rw (letter_is_no_digit b (and_parts (is_suffix_letter b) (list_all is_suffix_letter suffix) ls).0) refl
-front_digits (d ∷ digits) suffix ds ls =
-    let parts = and_parts (is_digit d) (list_all is_digit digits) ds in
-    rw parts.0 (ap (λ bs. d ∷ bs) (front_digits digits suffix parts.1 ls))
-
--- what each row of a table has, each meaning that is found has
-meaning_has : {X : Type 0} (q : X → Bool) (test : List ℕ → Bool) (table : List (List ℕ × X)) (x : X) → list_all (λ (row : List ℕ × X). q row.1) table ≡ true → meaning_of test table ≡ Some x → q x ≡ true
-meaning_has q test [] x all e = absurd cc
-meaning_has {X} q test (row ∷ table) x all e =
-    let parts = and_parts (q row.1) (list_all (λ (row : List ℕ × X). q row.1) table) all in
-    by (test row.0) parts.0 (meaning_has q test table x parts.1) e where
-      by : (t : Bool) → q row.1 ≡ true → (meaning_of test table ≡ Some x → q x ≡ true) → option_map (λ (r : List ℕ × X). r.1) (cond t (Some row) (find (λ (r : List ℕ × X). test r.0) table)) ≡ Some x → q x ≡ true
-      by true first later e = ap q (same row.1 x e) ∙ first where
-        same : (y x : X) → Some y ≡ Some x → x ≡ y
-        same y x e = cc
-      by false first later e = later e
+use Rattle.gim_lexer.proofs.Cutting.{tokens_stand}
+use Rattle.lexing.proofs.NumberLemmas.{front_digits}
+use Rattle.lexing.proofs.TableLemmas.{meaning_has}
 
 abbrev is_not_plain : NumberKind → Bool
 is_not_plain Plain = false

@@ -1,15 +1,16 @@
 -- What a piece says of separators and tokens, and what the loop over pieces keeps.
 use Rattle.std.proofs.Common.{◌≡◌, ℕ, ◌<◌, ◌≤◌, List, [], ◌∷◌, ◌++◌, length, Option, Some, None, refl, sym, ap, ◌∙◌, subst, arith}
 use Rattle.gim_text.specs.declared.token.Token.{Token}
-use Rattle.gim_text.specs.declared.token.Span.{Span}
+use Rattle.pm_places.specs.declared.span.Span.{Span}
 use Rattle.gim_text.specs.Meanings.{span_of}
 use Rattle.gim_lexer.specs.declared.pieces.Piece.{Piece}
 use Rattle.gim_lexer.specs.declared.pieces.Piece.TheVariants as pieces
-use Rattle.gim_lexer.specs.Cuts.{separator_at, token_at, Cuts, done, IsLexFault}
+use Rattle.gim_lexer.specs.Cuts.{separator_at, token_at, gimple, IsLexFault}
 use Rattle.gim_text.specs.declared.fault.GimpleFault.{GimpleFault}
 use Rattle.gim_lexer.specs.Faults.{lex_fault, IsCause}
 use Rattle.gim_lexer.specs.Pieces.{piece_from, piece_at}
-use Rattle.gim_lexer.proofs.Cutting.{separator_ends, token_ends, past_separator, past_token}
+use Rattle.lexing.proofs.Cutting.{Reached, past_separator, past_token}
+use Rattle.gim_lexer.proofs.Cutting.{moves}
 
 is_separator : (s : Option ℕ) (t : Option Token) (to : ℕ) → Some (pieces.Separator to) ≡ piece_from s t → s ≡ Some to
 is_separator (Some n) t to e = cc
@@ -26,36 +27,27 @@ is_nothing (Some n) t e = absurd cc
 is_nothing None (Some t) e = absurd cc
 is_nothing None None e = (refl, refl)
 
--- up to the place the source is cut into these tokens
-pub record Reached (source : List ℕ) (ts : List Token) (at : ℕ) : Type 0 where
-  pub cut : Cuts source 0 ts at
-  pub within : at ≤ length source
-
-pub step_separator : (source : List ℕ) (ts : List Token) (at to : ℕ) (piece : Piece) → Reached source ts at → Some piece ≡ piece_at source at → piece ≡ pieces.Separator to → Reached source ts to × (at < to)
+pub step_separator : (source : List ℕ) (ts : List Token) (at to : ℕ) (piece : Piece) → Reached gimple source ts at → Some piece ≡ piece_at source at → piece ≡ pieces.Separator to
+    → Reached gimple source ts to × (at < to)
 unfolding piece_at
 step_separator source ts at to piece reached e is =
-    let found : separator_at source at ≡ Some to = is_separator (separator_at source at) (token_at source at) to (sym (ap Some is) ∙ e) in
-    let ends = separator_ends source at to reached.within found in
-    (record { cut = past_separator source ts at to reached.cut found; within = ends.1 }, ends.0)
+    past_separator moves source ts at to reached (is_separator (separator_at source at) (token_at source at) to (sym (ap Some is) ∙ e))
 
-pub step_token : (source : List ℕ) (ts : List Token) (at : ℕ) (t : Token) (piece : Piece) → Reached source ts at → Some piece ≡ piece_at source at → piece ≡ pieces.Token t → Reached source (ts ++ t ∷ []) (span_of t).to × (at < (span_of t).to)
+pub step_token : (source : List ℕ) (ts : List Token) (at : ℕ) (t : Token) (piece : Piece) → Reached gimple source ts at → Some piece ≡ piece_at source at → piece ≡ pieces.Token t
+    → Reached gimple source (ts ++ t ∷ []) (span_of t).to × (at < (span_of t).to)
 unfolding piece_at
 step_token source ts at t piece reached e is =
     let found = is_token (separator_at source at) (token_at source at) t (sym (ap Some is) ∙ e) in
-    let ends = token_ends source at t reached.within found.1 in
-    (record { cut = past_token source ts at t reached.cut found.0 found.1; within = ends.1 }, ends.0)
+    past_token moves source ts at t reached found.0 found.1
 
-pub step_fault : (source : List ℕ) (ts : List Token) (at : ℕ) → Reached source ts at → at < length source → None ≡ piece_at source at → IsLexFault source at
+pub step_fault : (source : List ℕ) (ts : List Token) (at : ℕ) → Reached gimple source ts at → at < length source → None ≡ piece_at source at → IsLexFault source at
 unfolding piece_at
 step_fault source ts at reached within e =
     let found = is_nothing (separator_at source at) (token_at source at) e in
     record { tokens = ts; before = reached.cut; within = within; no_separator = found.0; no_token = found.1 }
 
-pub begun : (source : List ℕ) (ts : List Token) → ts ≡ [] → Reached source ts 0
-begun source ts e = subst (λ us. Reached source us 0) (sym e) (record { cut = done 0; within = omega arith })
-
 -- a token that was pushed
-pub stepped : (source : List ℕ) (ts us : List Token) (t : Token) (span : Span) → us ≡ ts ++ t ∷ [] → span ≡ span_of t → Reached source (ts ++ t ∷ []) (span_of t).to → Reached source us span.to
+pub stepped : (source : List ℕ) (ts us : List Token) (t : Token) (span : Span) → us ≡ ts ++ t ∷ [] → span ≡ span_of t → Reached gimple source (ts ++ t ∷ []) (span_of t).to → Reached gimple source us span.to
 stepped source ts us t span e p reached = rw (e, p) reached
 
 pub is_cause : (source : List ℕ) (at : ℕ) (fault : GimpleFault) → fault ≡ lex_fault at → IsLexFault source at → IsCause source fault

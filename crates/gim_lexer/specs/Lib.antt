@@ -7,6 +7,5 @@ pub mod Numbers
 pub mod Pieces
 pub mod Separators
 pub mod Spelled
-pub mod Tables
 pub mod Tokens
 pub mod Words

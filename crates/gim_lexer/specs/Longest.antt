@@ -2,8 +2,8 @@
 use Rattle.std.specs.Prelude.{◌≡◌, ◌⊎◌, ℕ, ◌≤◌, IsTrue, Some, List, length, drop, codes}
 use Rattle.gim_text.specs.declared.token.Token.{Token}
 use Rattle.gim_text.specs.Meanings.{span_of}
-use Rattle.gim_text.specs.Texts.{text_of}
-use Rattle.gim_lexer.specs.Separators.{opens}
+use Rattle.pm_places.specs.Spans.{text_of}
+use Rattle.lexing.specs.Separators.{opens}
 use Rattle.gim_lexer.specs.Cuts.{token_at}
 use Rattle.gim_lexer.specs.Spelled.{Spells}
 

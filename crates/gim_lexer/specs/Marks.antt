@@ -2,7 +2,7 @@
 use Rattle.std.specs.Prelude.{ℕ, Option, List, [], ◌∷◌, codes}
 use Rattle.gim_text.specs.declared.token.Mark.{Mark}
 use Rattle.gim_text.specs.declared.token.Mark.TheVariants as marks
-use Rattle.gim_lexer.specs.Tables.{beside}
+use Rattle.lexing.specs.Tables.{beside}
 
 abbrev pub short_marks : List (List ℕ × Mark)
 short_marks = (codes "(", marks.Open) ∷ (codes ")", marks.Close) ∷ (codes "{", marks.OpenBrace) ∷ (codes "}", marks.CloseBrace)

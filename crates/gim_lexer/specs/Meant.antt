@@ -1,13 +1,14 @@
 -- What the grammar and the names may rely on: the text of a token that means an identifier, a block or a number.
 use Rattle.std.specs.Prelude.{◌≡◌, ℕ, IsTrue, Some, List}
 use Rattle.std.specs.List.{AllByRecursion}
-use Rattle.gim_ast.specs.Identifiers.{is_identifier, is_block_word, is_number_text}
-use Rattle.gim_text.specs.declared.token.Span.{Span}
+use Rattle.gim_ast.specs.Identifiers.{is_identifier, is_block_word}
+use Rattle.lexing.specs.Numbers.{is_number_text, leading_digits}
+use Rattle.pm_places.specs.declared.span.Span.{Span}
 use Rattle.gim_text.specs.declared.token.Token.{Token}
 use Rattle.gim_text.specs.declared.token.NumberKind.{NumberKind}
 use Rattle.gim_text.specs.declared.token.NumberKind.TheVariants.{Plain, Wrong}
 use Rattle.gim_text.specs.Meanings.{identifier, block_word, number}
-use Rattle.gim_text.specs.Texts.{text_of, leading_digits}
+use Rattle.pm_places.specs.Spans.{text_of}
 
 -- digits without a leading zero, and nothing else where the number has no suffix
 abbrev pub IsNumberText : NumberKind → List ℕ → Type 0

@@ -1,13 +1,9 @@
 -- How numbers are written: digits, and a suffix of the letters `u` and `l`. Small and capital letters count alike.
-use Rattle.std.specs.Prelude.{ℕ, ◌==◌, Bool, ◌||◌, unwrap_or, List, [], ◌∷◌, codes, if◌then◌else◌}
-use Rattle.gim_ast.specs.Identifiers.{is_number_text}
+use Rattle.std.specs.Prelude.{ℕ, unwrap_or, List, [], ◌∷◌, codes, if◌then◌else◌}
+use Rattle.lexing.specs.Numbers.{is_number_text}
 use Rattle.gim_text.specs.declared.token.NumberKind.{NumberKind}
 use Rattle.gim_text.specs.declared.token.NumberKind.TheVariants.{Plain, Unsigned, Long, UnsignedLong, Wrong}
-use Rattle.gim_lexer.specs.Tables.{beside_in_any_case}
-
--- `u`, `U`, `l` or `L`
-abbrev pub is_suffix_letter : ℕ → Bool
-is_suffix_letter b = (b == 117) || (b == 85) || (b == 108) || (b == 76)
+use Rattle.lexing.specs.Tables.{beside_in_any_case}
 
 -- the suffixes that numbers may have, in small letters
 abbrev pub suffixes : List (List ℕ × NumberKind)

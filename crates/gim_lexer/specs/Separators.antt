@@ -1,39 +1,13 @@
 -- What separates tokens, as the number of bytes that it takes at the front of a text.
-use Rattle.std.specs.Prelude.{ℕ, ◌+◌, ◌==◌, nat_le, Bool, false, not, ◌&&◌, ◌||◌, Option, Some, None, option_map, List, [], ◌∷◌, drop, codes, if◌then◌else◌}
-use Rattle.std.specs.List.{prefix_len, starts_with}
-
--- white space: the bytes 9 to 13 and 32
-abbrev pub is_space : ℕ → Bool
-is_space b = (nat_le 9 b && nat_le b 13) || (b == 32)
-
-abbrev pub begins_with_space : List ℕ → Bool
-begins_with_space [] = false
-begins_with_space (b ∷ text) = is_space b
-
--- the text begins with these bytes
-abbrev pub opens : List ℕ → List ℕ → Bool
-opens text bytes = starts_with ◌==◌ text bytes
+use Rattle.std.specs.Prelude.{ℕ, Bool, ◌&&◌, ◌||◌, Option, Some, List, codes, if◌then◌else◌}
+use Rattle.lexing.specs.Separators.{begins_with_space, opens, line_length, comment_length}
 
 -- `//`, or `;;` where a line begins: either makes a note of what is left of its line
 abbrev pub opens_note : Bool → List ℕ → Bool
 opens_note line_begins text = opens text (codes "//") || (line_begins && opens text (codes ";;"))
 
-abbrev pub is_no_line_feed : ℕ → Bool
-is_no_line_feed b = not (b == 10)
-
--- the bytes of a line, without the line feed at its end
-abbrev pub line_length : List ℕ → ℕ
-line_length text = prefix_len is_no_line_feed text
-
--- the bytes up to the end of the first `*/`, where there is one
-unfoldable pub length_to_star_slash : List ℕ → Option ℕ
-length_to_star_slash [] = None
-length_to_star_slash (b ∷ text) = if opens (b ∷ text) (codes "*/") then Some 2 else option_map (λ n. 1 + n) (length_to_star_slash text)
-
--- How long a separator is that begins a text: one byte of white space, a note, or a comment (`/*` up to the first `*/` behind it).
--- A comment without its end is none
+-- How long a separator is that begins a text: one byte of white space, a note, or a comment
 unfoldable pub separator_length : Bool → List ℕ → Option ℕ
 separator_length line_begins text =
     if begins_with_space text then Some 1
-    else (if opens_note line_begins text then Some (line_length text)
-    else (if opens text (codes "/*") then option_map (λ n. 2 + n) (length_to_star_slash (drop 2 text)) else None))
+    else (if opens_note line_begins text then Some (line_length text) else comment_length text)

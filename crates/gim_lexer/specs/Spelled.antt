@@ -1,17 +1,18 @@
 -- What the text of a token is.
 use Rattle.std.specs.Prelude.{◌≡◌, ◌⊎◌, ℕ, ◌<◌, ◌≤◌, IsTrue, Some, List, [], ◌∷◌, ◌++◌, length, codes}
 use Rattle.std.specs.List.{list_all, AllByRecursion}
-use Rattle.gim_ast.specs.Identifiers.{is_digit, is_identifier, is_block_word}
+use Rattle.gim_ast.specs.Identifiers.{is_identifier, is_block_word}
+use Rattle.lexing.specs.Bytes.{is_digit, is_suffix_letter, is_inner}
 use Rattle.gim_text.specs.declared.token.Token.{Token}
 use Rattle.gim_text.specs.declared.token.Token.TheVariants as tokens
 use Rattle.gim_text.specs.declared.token.NumberKind.{NumberKind}
 use Rattle.gim_text.specs.Meanings.{span_of}
-use Rattle.gim_text.specs.Texts.{text_of}
-use Rattle.gim_lexer.specs.Tables.{beside}
+use Rattle.pm_places.specs.Spans.{text_of}
+use Rattle.lexing.specs.Cuts as cuts
+use Rattle.lexing.specs.Tables.{beside}
 use Rattle.gim_lexer.specs.Words.{type_word_of, keyword_of}
-use Rattle.gim_lexer.specs.Numbers.{is_suffix_letter, number_kind}
+use Rattle.gim_lexer.specs.Numbers.{number_kind}
 use Rattle.gim_lexer.specs.Marks.{short_marks, long_marks}
-use Rattle.gim_lexer.specs.Tokens.{is_inner}
 
 -- one digit or more, and then a suffix
 pub record IsNumber (kind : NumberKind) (text : List ℕ) : Type 0 where
@@ -41,15 +42,12 @@ Spells text (tokens.Text at) = IsQuoted text
 Spells text (tokens.Mark mark at) = (beside text long_marks ≡ Some mark) ⊎ (beside text short_marks ≡ Some mark)
 
 -- the token stands in the source, and its text spells it
-pub record StandsIn (source : List ℕ) (token : Token) : Type 0 where
-  pub has_bytes : (span_of token).from < (span_of token).to
-  pub within : (span_of token).to ≤ length source
-  pub spelled : Spells (text_of source (span_of token)) token
+abbrev pub StandsIn : List ℕ → Token → Type 0
+StandsIn source token = cuts.StandsIn Spells span_of source token
 
 abbrev pub AllStandIn : List ℕ → List Token → Type 0
 AllStandIn source tokens = AllByRecursion (StandsIn source) tokens
 
 -- the tokens stand one behind the other, from one place to another
 abbrev pub InOrder : ℕ → List Token → ℕ → Type 0
-InOrder from [] to = from ≤ to
-InOrder from (token ∷ tokens) to = (from ≤ (span_of token).from) × ((span_of token).from < (span_of token).to) × InOrder (span_of token).to tokens to
+InOrder from tokens to = cuts.InOrder span_of from tokens to

@@ -1,19 +1,15 @@
 -- The token that begins a text, as long as it can be.
-use Rattle.std.specs.Prelude.{ℕ, ◌+◌, ◌==◌, Bool, not, ◌&&◌, Option, Some, None, List, [], ◌∷◌, take, drop, codes, if◌then◌else◌}
+use Rattle.std.specs.Prelude.{ℕ, ◌+◌, ◌==◌, Option, Some, None, List, [], ◌∷◌, take, drop, codes, if◌then◌else◌}
 use Rattle.std.specs.List.{prefix_len}
-use Rattle.gim_ast.specs.Identifiers.{is_digit, is_letter, is_word_byte}
-use Rattle.gim_text.specs.declared.token.Span.{Span}
+use Rattle.lexing.specs.Bytes.{is_digit, is_letter, is_word_byte, is_suffix_letter, is_inner}
+use Rattle.pm_places.specs.Spans.{place}
 use Rattle.gim_text.specs.declared.token.Token.{Token}
 use Rattle.gim_text.specs.declared.token.Token.TheVariants.{Number, Text, Mark}
 use Rattle.gim_text.specs.declared.token.Mark.{Mark as MarkKind}
-use Rattle.gim_lexer.specs.Separators.{opens}
+use Rattle.lexing.specs.Separators.{opens}
 use Rattle.gim_lexer.specs.Words.{word_token}
-use Rattle.gim_lexer.specs.Numbers.{is_suffix_letter, number_kind}
+use Rattle.gim_lexer.specs.Numbers.{number_kind}
 use Rattle.gim_lexer.specs.Marks.{short_mark, long_mark}
-
--- the place of the n bytes from `at` on
-abbrev pub place : ℕ → ℕ → Span
-place at n = record { from = at; to = at + n }
 
 -- all word bytes at the front
 unfoldable pub word_at : ℕ → List ℕ → Token
@@ -28,10 +24,6 @@ number_at at text =
     let rest = drop n text in
     let m = prefix_len is_suffix_letter rest in
     Number (number_kind (take n text) (take m rest)) (place at (n + m))
-
--- a byte that a text may hold between its two `"`
-abbrev pub is_inner : ℕ → Bool
-is_inner b = not (b == 34) && not (b == 10)
 
 -- behind a `"`: what stands up to the next one on the same line
 unfoldable pub text_at : ℕ → List ℕ → Option Token

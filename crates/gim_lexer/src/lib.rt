@@ -1,17 +1,15 @@
 //! The tokens of GIMPLE text, each as long as it can be, with their places.
 //!
 //! At a place there begins a separator (`separators`) or a token (`tokens`): a word (`words`), a number (`numbers`), a
-//! text or a mark (`marks`). `pieces` says which, and `lex` goes from one to the next. `bytes` has the runs of bytes that
-//! they stand on, `tables` the look-up of words and suffixes. `laws` has what holds of all tokens of a source.
+//! text or a mark (`marks`). `pieces` says which, and `lex` goes from one to the next. `laws` has what holds of all tokens
+//! of a source.
 #![tactic(auto)]
 
-mod bytes;
 pub mod laws;
 mod marks;
 mod numbers;
 mod pieces;
 mod separators;
-mod tables;
 mod tokens;
 mod words;
 
@@ -21,8 +19,9 @@ ghost use Rattle.gim_text.specs.Faults.{memory_fault};
 ghost use Rattle.gim_lexer.specs.Cuts.{AreTokens};
 ghost use Rattle.gim_lexer.specs.Faults.{lex_fault, IsCause};
 
-use gim_text::{GimpleFault, GimpleKind, Span, Token};
+use gim_text::{GimpleFault, GimpleKind, Token};
 use pieces::Piece;
+use pm_places::Span;
 use std::alloc::Global;
 
 /// A fault at a place where nothing begins.

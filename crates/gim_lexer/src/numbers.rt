@@ -1,13 +1,10 @@
 //! How numbers are written.
 
 ghost use Rattle.std.specs.Prelude.{◌≡◌};
-ghost use Rattle.std.specs.List.{list_all};
-ghost use Rattle.gim_ast.specs.Identifiers.{is_digit, is_number_text};
 ghost use Rattle.gim_lexer.specs.Numbers.{suffix_kind, number_kind};
 
-use crate::bytes::is_digit;
-use crate::tables::{Row, beside_in_any_case};
 use gim_text::NumberKind;
+use lexing::{Row, beside_in_any_case, is_number_text};
 
 /// The suffixes that numbers may have, in small letters.
 const SUFFIXES: [Row<NumberKind>; 8] = [
@@ -20,24 +17,6 @@ const SUFFIXES: [Row<NumberKind>; 8] = [
     ("lu", NumberKind::UnsignedLong),
     ("llu", NumberKind::UnsignedLong),
 ];
-
-/// Whether each byte is a digit.
-fn are_digits(bytes: &[u8]) -> bool
-    ensures { result ≡ list_all is_digit bytes.now }
-{
-    bytes.iter().all(|byte| is_digit(*byte))
-}
-
-/// Whether the bytes are digits without a leading zero, one at least.
-pub(crate) fn is_number_text(bytes: &[u8]) -> bool
-    ensures { result ≡ is_number_text bytes.now }
-{
-    match bytes {
-        [] => false,
-        [byte] => is_digit(*byte),
-        [first, rest @ ..] => is_digit(*first) && *first != b'0' && are_digits(rest),
-    }
-}
 
 /// What a suffix says.
 fn suffix_kind(suffix: &[u8]) -> NumberKind

@@ -1,24 +1,14 @@
 //! The token that begins a text.
 
 ghost use Rattle.std.specs.Prelude.{◌≡◌, ◌≤◌, ◌<◌, ◌+◌, ◌^◌, length, IfSome};
-ghost use Rattle.gim_lexer.specs.Tokens.{place, word_at, number_at, text_at, mark_at, token_of_text};
+ghost use Rattle.gim_lexer.specs.Tokens.{word_at, number_at, text_at, mark_at, token_of_text};
 
-use crate::bytes::{digits_len, inner_len, is_digit, is_letter, suffix_len, word_len};
 use crate::marks::{long_mark, short_mark};
 use crate::numbers::number_kind;
 use crate::words::word_token;
-use gim_text::{Span, Token};
-
-/// The place of some bytes from `at` on.
-fn place(at: usize, len: usize) -> Span
-    requires { at + len < 2 ^ 64 }
-    ensures { result ≡ place at len }
-{
-    Span {
-        from: at,
-        to: at + len,
-    }
-}
+use gim_text::Token;
+use lexing::{digits_len, inner_len, is_digit, is_letter, suffix_len, word_len};
+use pm_places::place;
 
 /// The word at the front.
 #[tactic(auto, unfolding(crate::specs::Tokens::word_at))]

@@ -1,12 +1,12 @@
 //! Words: which are reserved, and what token each makes.
 
 ghost use Rattle.std.specs.Prelude.{◌≡◌};
-ghost use Rattle.gim_ast.specs.Identifiers.{is_block_word};
 ghost use Rattle.gim_lexer.specs.Words.{type_word_of, keyword_of, plain_word, word_token};
 
-use crate::numbers::is_number_text;
-use crate::tables::{Row, beside};
-use gim_text::{Keyword, Span, Token, TypeWord};
+use gim_ast::is_block_word;
+use gim_text::{Keyword, Token, TypeWord};
+use lexing::{Row, beside};
+use pm_places::Span;
 
 /// The words of types.
 const TYPE_WORDS: [Row<TypeWord>; 8] = [
@@ -50,18 +50,6 @@ fn keyword(word: &[u8]) -> Option<Keyword>
     ensures { result ≡ keyword_of word.now }
 {
     beside(&KEYWORDS, word)
-}
-
-/// Whether the word is `__BB` and a number.
-fn is_block_word(word: &[u8]) -> bool
-    ensures { result ≡ is_block_word word.now }
-{
-    match word {
-        [a, b, c, d, number @ ..] => {
-            *a == b'_' && *b == b'_' && *c == b'B' && *d == b'B' && is_number_text(number)
-        }
-        _ => false,
-    }
 }
 
 /// The token of a word that is neither of a type nor a keyword.

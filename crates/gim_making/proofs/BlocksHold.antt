@@ -11,7 +11,7 @@ use Rattle.gim_ast.specs.declared.function.Phi.{Phi}
 use Rattle.gim_ast.specs.Functions.{targets_of}
 use Rattle.gim_ast.specs.WellFormed as ast
 use Rattle.gim_ast.specs.WellFormed.{same_text, all_distinct, is_empty, entry_has_no_phi, phi_blocks, phi_holds, blocks_hold}
-use Rattle.gim_text.specs.declared.token.Span.{Span}
+use Rattle.pm_places.specs.declared.span.Span.{Span}
 use Rattle.gim_text.specs.declared.tree.ArgText.{ArgText}
 use Rattle.gim_text.specs.declared.tree.BlockText.{BlockText}
 use Rattle.gim_text.specs.declared.tree.EndText.{EndText}
@@ -19,7 +19,7 @@ use Rattle.gim_text.specs.declared.tree.EndText.TheVariants.{Goto, If, Return}
 use Rattle.gim_text.specs.declared.tree.FunctionText.{FunctionText}
 use Rattle.gim_text.specs.declared.tree.ItemText.{ItemText}
 use Rattle.gim_text.specs.declared.tree.ItemText.TheVariants as items
-use Rattle.gim_text.specs.Texts.{text_of}
+use Rattle.pm_places.specs.Spans.{text_of}
 use Rattle.gim_names.specs.Kept.{KeepsNames, number_text}
 use Rattle.gim_shape.specs.Blocks as shape
 use Rattle.gim_shape.specs.Blocks.{named_at, jumps_of_end, jumps_of, jumps_to, predecessors}

@@ -9,7 +9,7 @@ use Rattle.gim_ast.specs.Identifiers.{is_identifier, is_anonymous}
 use Rattle.gim_ast.specs.WellFormed.{same_text, all_distinct, ident_of, is_type_of, declarations_hold, types_hold}
 use Rattle.gim_text.specs.declared.tree.DeclText.{DeclText}
 use Rattle.gim_text.specs.declared.tree.FunctionText.{FunctionText}
-use Rattle.gim_text.specs.Texts.{text_of}
+use Rattle.pm_places.specs.Spans.{text_of}
 use Rattle.gim_names.specs.Kept.{KeepsNames, ident_text, params_of, locals_of}
 use Rattle.gim_making.specs.Standing.{made}
 use Rattle.gim_making.specs.Trees.{decl_of}

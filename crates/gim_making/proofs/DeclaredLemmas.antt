@@ -4,7 +4,7 @@ use Rattle.std.specs.Str.{bytes_eq}
 use Rattle.std.specs.Cmp.Lexicographic.{nat_list_eq_equiv}
 use Rattle.pm_wide.specs.Types.{Ty}
 use Rattle.gim_text.specs.declared.tree.DeclText.{DeclText}
-use Rattle.gim_text.specs.Texts.{text_of}
+use Rattle.pm_places.specs.Spans.{text_of}
 use Rattle.gim_making.specs.Declarations.{declared_type}
 
 -- the list from the place before on

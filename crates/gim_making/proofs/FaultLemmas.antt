@@ -5,12 +5,9 @@ use Rattle.std.proofs.lemmas.List.Concat.{flat_map-cons}
 use Rattle.gim_text.specs.declared.fault.GimpleFault.{GimpleFault}
 use Rattle.gim_text.specs.declared.fault.GimpleKind.{GimpleKind}
 use Rattle.gim_text.specs.declared.fault.GimpleKind.TheVariants.{Memory}
-use Rattle.gim_text.specs.Faults.{first_fault, or_fault, IsFault, Judges}
-
-pub first_fault-append : (xs ys : List (Option GimpleFault)) → first_fault (xs ++ ys) ≡ or_fault (first_fault xs) (first_fault ys)
-first_fault-append [] ys = refl
-first_fault-append (None ∷ xs) ys = first_fault-append xs ys
-first_fault-append (Some fault ∷ xs) ys = refl
+use Rattle.gim_text.specs.Faults.{IsFault, Judges}
+use Rattle.pm_places.specs.FirstFaults.{first_fault, or_fault}
+use Rattle.pm_places.proofs.FaultLemmas.{first_fault-append}
 
 -- a fault of the first part is the first
 pub fault_before : (kind : GimpleKind) (fault : GimpleFault) (first later : Option GimpleFault) → IsFault kind fault first → IsFault kind fault (or_fault first later)

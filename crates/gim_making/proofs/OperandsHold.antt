@@ -12,10 +12,10 @@ use Rattle.gim_ast.specs.declared.function.NameRow.{NameRow}
 use Rattle.gim_ast.specs.declared.function.Phi.{Phi}
 use Rattle.gim_ast.specs.declared.function.Stmt.{Stmt}
 use Rattle.gim_ast.specs.Functions.{operands_of, row_of}
-use Rattle.gim_ast.specs.Numbers.{number_after}
+use Rattle.lexing.specs.Numbers.{number_after, leading_digits}
 use Rattle.gim_ast.specs.WellFormed.{type_of, is_type_of, is_word, operand_holds, rhs_fits, phi_fits, stmt_fits, end_fits, block_fits, operands_hold}
 use Rattle.pm_ops.specs.Codes.{is_comparison_code}
-use Rattle.gim_text.specs.declared.token.Span.{Span}
+use Rattle.pm_places.specs.declared.span.Span.{Span}
 use Rattle.gim_text.specs.declared.fault.GimpleFault.{GimpleFault}
 use Rattle.gim_text.specs.declared.tree.BlockText.{BlockText}
 use Rattle.gim_text.specs.declared.tree.EndText.{EndText}
@@ -30,9 +30,9 @@ use Rattle.gim_text.specs.declared.tree.OperandText.{OperandText}
 use Rattle.gim_text.specs.declared.tree.OperandText.TheVariants.{Name, Default, Literal}
 use Rattle.gim_text.specs.declared.tree.RightForm.{RightForm}
 use Rattle.gim_text.specs.declared.tree.RightForm.TheVariants.{Copy, Unary, Cast, Binary, Choice}
-use Rattle.gim_text.specs.Faults.{first_fault}
+use Rattle.pm_places.specs.FirstFaults.{first_fault}
 use Rattle.gim_text.specs.Literals.{signed, literal_type, literal_word}
-use Rattle.gim_text.specs.Texts.{text_of, leading_digits}
+use Rattle.pm_places.specs.Spans.{text_of}
 use Rattle.gim_names.specs.declared.mention.Mention.TheVariants.{Used, UsedDefault}
 use Rattle.gim_names.specs.Kept.{KeepsNames}
 use Rattle.gim_making.specs.declared.places.NamePlace.{NamePlace}

@@ -8,12 +8,13 @@ use Rattle.std.specs.Str.{bytes_eq}
 use Rattle.std.specs.Cmp.Lexicographic.{bytes_decides, nat_list_eq_equiv}
 use Rattle.std.proofs.lemmas.Bool.{and_parts, and_from, eqb-true, eq-eqb, false≢true}
 use Rattle.pm_wide.specs.Types.{Ty, same_type}
-use Rattle.gim_ast.specs.Identifiers.{is_number_text, is_anonymous}
-use Rattle.gim_ast.specs.Numbers.{number_below}
+use Rattle.gim_ast.specs.Identifiers.{is_anonymous}
+use Rattle.lexing.specs.Numbers.{is_number_text, number_below}
 use Rattle.gim_ast.specs.WellFormed.{same_text, declares_as}
-use Rattle.gim_ast.proofs.NumberLemmas.{number_below_is}
+use Rattle.lexing.proofs.NumberLemmas.{number_below_is}
 use Rattle.gim_text.specs.declared.tree.DeclText.{DeclText}
-use Rattle.gim_text.specs.Texts.{text_of, name_parts, parts_from}
+use Rattle.gim_text.specs.Texts.{name_parts, parts_from}
+use Rattle.pm_places.specs.Spans.{text_of}
 use Rattle.gim_text.proofs.NameLemmas.{parts_found}
 use Rattle.gim_names.specs.Kept.{ident_text, has_base}
 use Rattle.gim_making.specs.Declarations.{Declarations, declared_type, type_by_base, number_of, number_limit}

@@ -4,7 +4,7 @@ use Rattle.std.specs.List.{AllByRecursion, AllZip}
 use Rattle.gim_ast.specs.declared.function.Function.{Function}
 use Rattle.gim_ast.specs.WellFormed.{IsWellFormed}
 use Rattle.gim_text.specs.declared.tree.FunctionText.{FunctionText}
-use Rattle.gim_text.specs.Faults.{first_fault}
+use Rattle.pm_places.specs.FirstFaults.{first_fault}
 use Rattle.gim_names.proofs.Keeping.{each_keeps}
 use Rattle.gim_shape.specs.Kept.{BlockHolds, HasShape, KeepsLimits}
 use Rattle.gim_shape.proofs.ShapeKept.{shape_kept}

@@ -3,11 +3,12 @@ use Rattle.std.specs.Prelude.{ℕ, Option, Some, None, List, [], ◌∷◌, if�
 use Rattle.std.specs.Option.{unwrap_or, option_or}
 use Rattle.std.specs.Str.{bytes_eq}
 use Rattle.pm_wide.specs.Types.{Ty, bool_type}
-use Rattle.gim_ast.specs.Numbers.{number_below}
-use Rattle.gim_text.specs.declared.token.Span.{Span}
+use Rattle.lexing.specs.Numbers.{number_below}
+use Rattle.pm_places.specs.declared.span.Span.{Span}
 use Rattle.gim_text.specs.declared.tree.DeclText.{DeclText}
 use Rattle.gim_text.specs.declared.tree.FunctionText.{FunctionText}
-use Rattle.gim_text.specs.Texts.{text_of, name_parts}
+use Rattle.gim_text.specs.Texts.{name_parts}
+use Rattle.pm_places.specs.Spans.{text_of}
 
 -- the source, and the declarations of a function's parameters and locals in it
 pub record Declarations : Type 0 where

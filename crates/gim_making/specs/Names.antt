@@ -5,7 +5,7 @@ use Rattle.gim_ast.specs.declared.function.NameRow.{NameRow}
 use Rattle.gim_ast.specs.Functions.{first_where}
 use Rattle.gim_ast.specs.Identifiers.{is_anonymous}
 use Rattle.gim_ast.specs.WellFormed.{rises}
-use Rattle.gim_text.specs.declared.token.Span.{Span}
+use Rattle.pm_places.specs.declared.span.Span.{Span}
 use Rattle.gim_text.specs.declared.tree.ArgText.{ArgText}
 use Rattle.gim_text.specs.declared.tree.BlockText.{BlockText}
 use Rattle.gim_text.specs.declared.tree.DeclText.{DeclText}
@@ -18,7 +18,8 @@ use Rattle.gim_text.specs.declared.tree.OperandText.{OperandText}
 use Rattle.gim_text.specs.declared.tree.OperandText.TheVariants.{Name, Default, Literal}
 use Rattle.gim_text.specs.declared.tree.RightForm.{RightForm}
 use Rattle.gim_text.specs.declared.tree.RightForm.TheVariants.{Copy, Unary, Cast, Binary, Choice}
-use Rattle.gim_text.specs.Texts.{text_of, name_parts}
+use Rattle.gim_text.specs.Texts.{name_parts}
+use Rattle.pm_places.specs.Spans.{text_of}
 use Rattle.gim_making.specs.declared.places.NamePlace.{NamePlace}
 use Rattle.gim_making.specs.Declarations.{Declarations, type_of_name, number_of, declarations_of}
 

@@ -14,7 +14,7 @@ use Rattle.gim_ast.specs.declared.function.Rhs.{Rhs}
 use Rattle.gim_ast.specs.declared.function.Rhs.TheVariants as sides
 use Rattle.gim_ast.specs.declared.function.End.{End}
 use Rattle.gim_ast.specs.declared.function.End.TheVariants as ends
-use Rattle.gim_text.specs.declared.token.Span.{Span}
+use Rattle.pm_places.specs.declared.span.Span.{Span}
 use Rattle.gim_text.specs.declared.tree.ArgText.{ArgText}
 use Rattle.gim_text.specs.declared.tree.BlockText.{BlockText}
 use Rattle.gim_text.specs.declared.tree.DeclText.{DeclText}
@@ -27,7 +27,8 @@ use Rattle.gim_text.specs.declared.tree.OperandText.TheVariants.{Name, Default, 
 use Rattle.gim_text.specs.declared.tree.RightForm.{RightForm}
 use Rattle.gim_text.specs.declared.tree.RightForm.TheVariants.{Copy, Unary, Cast, Binary, Choice}
 use Rattle.gim_text.specs.Literals.{literal_word}
-use Rattle.gim_text.specs.Texts.{text_of, block_digits}
+use Rattle.gim_text.specs.Texts.{block_digits}
+use Rattle.pm_places.specs.Spans.{text_of}
 use Rattle.gim_making.specs.Declarations.{Declarations, type_of_name, version_of_name, number_of}
 
 -- the word of a constant that its type doesn't hold, which the rules on names don't let pass

@@ -4,7 +4,7 @@ use Rattle.std.specs.List.{flat_map}
 use Rattle.pm_ops.specs.Codes.{is_comparison_code}
 use Rattle.pm_wide.specs.Types.{Ty, same_type}
 use Rattle.gim_ast.specs.WellFormed.{type_of, rhs_fits}
-use Rattle.gim_text.specs.declared.token.Span.{Span}
+use Rattle.pm_places.specs.declared.span.Span.{Span}
 use Rattle.gim_text.specs.declared.fault.GimpleFault.{GimpleFault}
 use Rattle.gim_text.specs.declared.fault.GimpleKind.TheVariants.{TypeMismatch}
 use Rattle.gim_text.specs.declared.tree.ArgText.{ArgText}
@@ -18,7 +18,8 @@ use Rattle.gim_text.specs.declared.tree.OperandText.{OperandText}
 use Rattle.gim_text.specs.declared.tree.OperandText.TheVariants.{Name, Default, Literal}
 use Rattle.gim_text.specs.declared.tree.RightForm.{RightForm}
 use Rattle.gim_text.specs.declared.tree.RightForm.TheVariants.{Cast}
-use Rattle.gim_text.specs.Faults.{fault_at, first_fault}
+use Rattle.gim_text.specs.Faults.{fault_at}
+use Rattle.pm_places.specs.FirstFaults.{first_fault}
 use Rattle.gim_making.specs.Declarations.{Declarations, declarations_of, type_of_name}
 use Rattle.gim_making.specs.Trees.{operand_of, rhs_of}
 

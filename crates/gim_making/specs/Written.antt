@@ -1,9 +1,10 @@
 -- What the tokens of a text give to each tree that is read from them, before any rule is judged.
 use Rattle.std.specs.Prelude.{◌≡◌, ℕ, ◌^◌, ◌<◌, Bool, true, ◌&&◌, Option, Some, None, List, [], ◌∷◌, ◌++◌, map, length}
 use Rattle.std.specs.List.{flat_map, list_all}
-use Rattle.gim_ast.specs.Identifiers.{is_identifier, is_number_text}
+use Rattle.gim_ast.specs.Identifiers.{is_identifier}
+use Rattle.lexing.specs.Numbers.{is_number_text}
 use Rattle.gim_ast.specs.WellFormed.{is_type_of}
-use Rattle.gim_text.specs.declared.token.Span.{Span}
+use Rattle.pm_places.specs.declared.span.Span.{Span}
 use Rattle.gim_text.specs.declared.tree.ArgText.{ArgText}
 use Rattle.gim_text.specs.declared.tree.BlockText.{BlockText}
 use Rattle.gim_text.specs.declared.tree.DeclText.{DeclText}
@@ -18,7 +19,8 @@ use Rattle.gim_text.specs.declared.tree.OperandText.{OperandText}
 use Rattle.gim_text.specs.declared.tree.OperandText.TheVariants.{Name, Default, Literal}
 use Rattle.gim_text.specs.declared.tree.RightForm.{RightForm}
 use Rattle.gim_text.specs.declared.tree.RightForm.TheVariants.{Copy, Unary, Cast, Binary, Choice}
-use Rattle.gim_text.specs.Texts.{text_of, block_digits}
+use Rattle.gim_text.specs.Texts.{block_digits}
+use Rattle.pm_places.specs.Spans.{text_of}
 
 -- ---- the operands of a tree, in the order of the text
 

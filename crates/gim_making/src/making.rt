@@ -11,11 +11,11 @@ use crate::rows::names;
 use crate::scope::Scope;
 use gim_ast::{Block, Decl, End, Function, Operands, Phi, Rhs, Stmt};
 use gim_text::{
-    ArgText, BlockText, DeclText, EndText, FunctionText, ItemText, OperandText, RightForm, Span,
-    literal, text,
+    ArgText, BlockText, DeclText, EndText, FunctionText, ItemText, OperandText, RightForm, literal,
 };
 use pm_items::Items;
 use pm_ops::{Code, OutOfMemory, Text};
+use pm_places::{Span, text};
 use pm_wide::{Operand, Wide};
 use std::alloc::Global;
 

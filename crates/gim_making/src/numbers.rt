@@ -3,7 +3,7 @@
 ghost use Rattle.std.specs.Prelude.{◌≡◌};
 ghost use Rattle.gim_making.specs.Declarations.{number_of};
 
-use gim_text::number_below;
+use lexing::number_below;
 
 /// One more than the greatest version and the greatest block number.
 const LIMIT: u64 = 1_000_000_000;

@@ -6,10 +6,11 @@ ghost use Rattle.gim_ast.specs.Identifiers.{is_anonymous};
 ghost use Rattle.gim_making.specs.Names.{names_in, names_of_arg, names_of_block, names_of_decl, names_of_end, names_of_form, names_of_item, names_of_operand, plain};
 
 use gim_text::{
-    ArgText, BlockText, DeclText, EndText, FunctionText, ItemText, OperandText, RightForm, Span,
-    is_number_text, text,
+    ArgText, BlockText, DeclText, EndText, FunctionText, ItemText, OperandText, RightForm,
 };
+use lexing::is_number_text;
 use pm_ops::OutOfMemory;
+use pm_places::{Span, text};
 use std::alloc::Global;
 
 /// A name where it stands in the text.

@@ -11,9 +11,10 @@ use crate::numbers::number;
 use crate::places::NamePlace;
 use crate::scope::Scope;
 use gim_ast::NameRow;
-use gim_text::{name_parts, text};
+use gim_text::name_parts;
 use pm_items::Items;
 use pm_ops::{OutOfMemory, Text};
+use pm_places::text;
 use std::alloc::Global;
 use std::collections::BTreeMap;
 

@@ -6,8 +6,9 @@ ghost use Rattle.std.specs.Str.{bytes_eq};
 ghost use Rattle.gim_making.specs.Declarations.{Declarations, declarations_of, declared_type, type_by_base, type_of_name, version_of_name};
 
 use crate::numbers::number;
-use gim_text::{DeclText, FunctionText, Span, name_parts, text};
+use gim_text::{DeclText, FunctionText, name_parts};
 use pm_ops::OutOfMemory;
+use pm_places::{Span, text};
 use pm_wide::IntType;
 use std::alloc::Global;
 use std::collections::HashMap;

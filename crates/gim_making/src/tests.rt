@@ -1,10 +1,11 @@
 //! Types and functions of trees over one small text. The trees are written out; their places are found in the text.
 
+use pm_places::Span;
 use super::*;
 use gim_ast::{End, Rhs};
 use gim_text::{
     ArgText, BlockText, DeclText, EndText, GimpleKind, ItemText, LiteralText, LiteralType,
-    OperandText, RightForm, RightText, Span,
+    OperandText, RightForm, RightText,
 };
 use pm_ops::Code;
 use pm_wide::{IntType, Operand, Wide};

@@ -2,16 +2,18 @@
 
 ghost use Rattle.std.specs.Prelude.{◌≡◌, [], ◌∷◌, map};
 ghost use Rattle.std.specs.List.{flat_map};
-ghost use Rattle.gim_text.specs.Faults.{Judges, first_fault};
+ghost use Rattle.gim_text.specs.Faults.{Judges};
+ghost use Rattle.pm_places.specs.FirstFaults.{first_fault};
 ghost use Rattle.gim_making.specs.Declarations.{declarations_of};
 ghost use Rattle.gim_making.specs.Types.{form_fits, mismatch, place_of_arg, places_of_block, places_of_end, places_of_function, places_of_item, start_of, type_of_operand, types_fault};
 
 use crate::scope::Scope;
 use gim_text::{
     ArgText, BlockText, EndText, FunctionText, GimpleFault, GimpleKind, ItemText, OperandText,
-    RightForm, Span, literal,
+    RightForm, literal,
 };
 use pm_ops::Code;
+use pm_places::Span;
 use pm_wide::{IntType, Wide, well_typed};
 use std::alloc::Global;
 

@@ -1,7 +1,7 @@
 -- Readers of single tokens on lists of tokens, and of what stands in parentheses and is dropped.
 use Rattle.std.specs.Prelude.{ℕ, zero, suc, List, [], ◌∷◌, Option, Some, None, Ok, Err}
 use Rattle.grammar.specs.Reading.{Answer, meant_at}
-use Rattle.gim_text.specs.declared.token.Span.{Span}
+use Rattle.pm_places.specs.declared.span.Span.{Span}
 use Rattle.gim_text.specs.declared.token.Token.{Token}
 use Rattle.gim_text.specs.declared.token.Token.TheVariants as tokens
 use Rattle.gim_text.specs.declared.token.Keyword.{Keyword}

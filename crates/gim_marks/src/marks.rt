@@ -9,10 +9,11 @@ ghost use Rattle.gim_marks.specs.Grammar.{GoesOnNothing};
 ghost use Rattle.gim_marks.specs.Readers as readers;
 
 use gim_text::{
-    Keyword, Mark, NumberKind, Part, Span, Token, TokenFault, block_word, identifier, keyword,
-    mark, number,
+    Keyword, Mark, NumberKind, Part, Token, TokenFault, block_word, identifier, keyword, mark,
+    number,
 };
 use grammar::Fault;
+use pm_places::Span;
 
 /// What the first token means, and the tokens after it.
 fn read_meant<'a>(

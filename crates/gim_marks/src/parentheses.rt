@@ -6,8 +6,9 @@ ghost use Rattle.grammar.specs.Exact.{IsExact};
 ghost use Rattle.gim_marks.specs.Grammar.{Closing, GoesOnNothing};
 ghost use Rattle.gim_marks.specs.Readers.{closing_at};
 
-use gim_text::{Mark, Part, Span, Token, TokenFault};
+use gim_text::{Mark, Part, Token, TokenFault};
 use grammar::Fault;
+use pm_places::Span;
 
 /// The place of the `)` that closes what was opened before these tokens, after tokens whose parentheses pair.
 #[tactic(auto, using(crate::proofs::BalancedExact::closing_exact))]

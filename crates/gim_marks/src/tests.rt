@@ -1,5 +1,6 @@
 use crate::{read_block_word, read_closing, read_keyword, read_mark, read_name, read_plain_number};
-use gim_text::{Keyword, Mark, NumberKind, Part, Span, Token};
+use gim_text::{Keyword, Mark, NumberKind, Part, Token};
+use pm_places::Span;
 use std::test::Fail;
 
 fn place(from: usize) -> Span {

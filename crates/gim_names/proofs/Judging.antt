@@ -10,14 +10,15 @@ use Rattle.gim_text.specs.declared.fault.GimpleFault.{GimpleFault}
 use Rattle.gim_text.specs.declared.fault.GimpleKind.{GimpleKind}
 use Rattle.gim_text.specs.declared.fault.GimpleKind.TheVariants.{Memory, Lex, Syntax, Unsupported, Redefined, Undeclared, WideLiteral, MissingBlock, BadPhi, NoReturn, TypeMismatch, TooLarge}
 use Rattle.gim_text.specs.declared.tree.FunctionText.{FunctionText}
-use Rattle.gim_text.specs.Faults.{fault_at, or_fault, IsFault, Judges}
+use Rattle.gim_text.specs.Faults.{fault_at, IsFault, Judges}
+use Rattle.pm_places.specs.FirstFaults.{or_fault, first_by}
 use Rattle.gim_names.specs.declared.mention.Mention.{Mention}
 use Rattle.gim_names.specs.declared.mention.Mention.TheVariants.{Param}
 use Rattle.gim_names.specs.declared.past.Past.{Past}
 use Rattle.gim_names.specs.Mentions.{place_of, mentions_of}
 use Rattle.gim_names.specs.Parts.{all_said, version_base, base_default}
 use Rattle.gim_names.specs.Rules.{is_repeated, is_contradicted, is_marked_otherwise, has_other_base, has_other_mark, has_other_default, is_redefined, is_undeclared, is_wide}
-use Rattle.gim_names.specs.NamesFault.{first_by, first_kind, kind_of_mention, mention_fault, mentions_fault, function_text, second_function, function_fault, names_fault}
+use Rattle.gim_names.specs.NamesFault.{first_kind, kind_of_mention, mention_fault, mentions_fault, function_text, second_function, function_fault, names_fault}
 use Rattle.gim_names.specs.Tables.{HasTexts, Remembers, IsSound}
 use Rattle.gim_names.proofs.TableLemmas.{one_more}
 

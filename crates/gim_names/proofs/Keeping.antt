@@ -4,22 +4,25 @@ use Rattle.std.specs.Prelude.{if◌then◌else◌, not, ◌||◌, ◌&&◌, ◌=
 use Rattle.std.specs.List.{list_any, list_all}
 use Rattle.std.specs.Cmp.Lexicographic.{bytes_decides}
 use Rattle.std.proofs.lemmas.Bool.{and_from, or_parts, or_from, or_left, or_right, or_cases, not_from_false, not-false, and_right, false_from_ne_true, false≢true}
-use Rattle.gim_ast.specs.Identifiers.{is_number_text, is_anonymous}
+use Rattle.gim_ast.specs.Identifiers.{is_anonymous}
+use Rattle.lexing.specs.Numbers.{is_number_text}
 use Rattle.gim_ast.specs.WellFormed.{same_text, all_distinct}
-use Rattle.gim_ast.proofs.NumberLemmas.{number_text_is_digits}
+use Rattle.lexing.proofs.NumberLemmas.{number_text_is_digits}
 use Rattle.gim_text.specs.declared.fault.GimpleFault.{GimpleFault}
 use Rattle.gim_text.specs.declared.fault.GimpleKind.{GimpleKind}
 use Rattle.gim_text.specs.declared.fault.GimpleKind.TheVariants.{Redefined}
 use Rattle.gim_text.specs.declared.tree.FunctionText.{FunctionText}
-use Rattle.gim_text.specs.Faults.{fault_at, or_fault}
-use Rattle.gim_text.specs.Texts.{text_of, name_parts, parts_from}
+use Rattle.gim_text.specs.Faults.{fault_at}
+use Rattle.pm_places.specs.FirstFaults.{or_fault, first_by}
+use Rattle.gim_text.specs.Texts.{name_parts, parts_from}
+use Rattle.pm_places.specs.Spans.{text_of}
 use Rattle.gim_text.proofs.NameLemmas.{no_parts_in_digits}
 use Rattle.gim_names.specs.declared.mention.Mention.{Mention}
 use Rattle.gim_names.specs.declared.mention.Mention.TheVariants.{Param, Local, Block, Assigned, Used, UsedDefault, Constant}
 use Rattle.gim_names.specs.Mentions.{place_of, mentions_of}
 use Rattle.gim_names.specs.Parts.{with_some, all_said, param_text, local_text, declared_text, block_number, assigned_text, assigned_version, plain_version, default_version, version_base, base_default}
 use Rattle.gim_names.specs.Rules.{has_other_second, stands, differs, is_declared_again, is_assigned_again, is_repeated, is_contradicted, is_marked_otherwise, has_other_base, has_other_mark, has_other_default, is_redefined, is_bare, lacks_base, lacks_param, is_unassigned, is_undeclared, is_wide}
-use Rattle.gim_names.specs.NamesFault.{first_by, first_kind, kind_of_mention, mention_fault, mentions_fault, function_text, second_function, function_fault, names_fault}
+use Rattle.gim_names.specs.NamesFault.{first_kind, kind_of_mention, mention_fault, mentions_fault, function_text, second_function, function_fault, names_fault}
 use Rattle.gim_names.specs.Tables.{have_one_each}
 use Rattle.gim_names.specs.Kept.{locals_of, assigned_of, has_base, has_param, is_declared, has_word, KeepsNames}
 use Rattle.gim_names.proofs.TableLemmas.{same_text_symm}

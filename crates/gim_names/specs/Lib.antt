@@ -4,4 +4,3 @@ pub mod Rules
 pub mod NamesFault
 pub mod Tables
 pub mod Kept
-pub mod FirstPlace

@@ -6,16 +6,12 @@ use Rattle.gim_text.specs.declared.fault.GimpleFault.{GimpleFault}
 use Rattle.gim_text.specs.declared.fault.GimpleKind.{GimpleKind}
 use Rattle.gim_text.specs.declared.fault.GimpleKind.TheVariants.{Redefined, Undeclared, WideLiteral}
 use Rattle.gim_text.specs.declared.tree.FunctionText.{FunctionText}
-use Rattle.gim_text.specs.Faults.{fault_at, or_fault}
-use Rattle.gim_text.specs.Texts.{text_of}
+use Rattle.gim_text.specs.Faults.{fault_at}
+use Rattle.pm_places.specs.FirstFaults.{or_fault, first_by}
+use Rattle.pm_places.specs.Spans.{text_of}
 use Rattle.gim_names.specs.declared.mention.Mention.{Mention}
 use Rattle.gim_names.specs.Mentions.{place_of, mentions_of}
 use Rattle.gim_names.specs.Rules.{is_redefined, is_undeclared, is_wide}
-
--- the first fault in a list, each judged by those before it, the latest of them first
-abbrev pub first_by : {X : Type 0} → (List X → X → Option GimpleFault) → List X → List X → Option GimpleFault
-first_by judge before [] = None
-first_by judge before (x ∷ xs) = or_fault (judge before x) (first_by judge (x ∷ before) xs)
 
 -- the first of the kinds that holds
 abbrev pub first_kind : Bool → Bool → Bool → Option GimpleKind

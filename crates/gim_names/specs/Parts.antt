@@ -1,6 +1,7 @@
 -- What a mention says that the rules on names compare. Versions and block numbers are their digits, so of any size.
 use Rattle.std.specs.Prelude.{ℕ, Option, Some, None, option_map, List, [], ◌∷◌}
-use Rattle.gim_text.specs.Texts.{text_of, name_parts}
+use Rattle.gim_text.specs.Texts.{name_parts}
+use Rattle.pm_places.specs.Spans.{text_of}
 use Rattle.gim_names.specs.declared.mention.Mention.{Mention}
 use Rattle.gim_names.specs.declared.mention.Mention.TheVariants.{Param, Local, Block, Assigned, Used, UsedDefault}
 

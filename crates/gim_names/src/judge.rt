@@ -1,7 +1,8 @@
 //! Whether a mention breaks a rule on names.
 
 ghost use Rattle.std.specs.Prelude.{◌≡◌, ℕ, List};
-ghost use Rattle.gim_text.specs.Texts.{text_of, name_parts};
+ghost use Rattle.gim_text.specs.Texts.{name_parts};
+ghost use Rattle.pm_places.specs.Spans.{text_of};
 ghost use Rattle.gim_names.specs.Tables.{Describes, Remembers, IsSound};
 ghost use Rattle.gim_names.specs.Rules as rules;
 ghost use Rattle.gim_names.specs.NamesFault as faults;
@@ -14,7 +15,8 @@ use crate::parts::{
 use crate::past::Past;
 use crate::scope::Scope;
 use crate::tables::{differs, stands};
-use gim_text::{GimpleKind, Span, text};
+use gim_text::GimpleKind;
+use pm_places::{Span, text};
 
 /// Whether a parameter, local or block of this identifier or number stood before.
 fn is_declared_again(source: &[u8], past: &Past, mention: &Mention) -> bool

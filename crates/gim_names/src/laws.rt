@@ -6,7 +6,7 @@ ghost use Rattle.gim_text.specs.declared.fault.GimpleFault.{GimpleFault};
 ghost use Rattle.gim_text.specs.declared.tree.BlockText.{BlockText};
 ghost use Rattle.gim_text.specs.declared.tree.FunctionText.{FunctionText};
 ghost use Rattle.gim_names.specs.declared.mention.Mention.{Mention};
-ghost use Rattle.gim_names.specs.FirstPlace.{IsFirstPlace};
+ghost use Rattle.pm_places.specs.FirstFaults.{IsFirstPlace};
 ghost use Rattle.gim_names.specs.Kept.{KeepsNames, BlockKeepsNames, AreOne, MentionsDeclare};
 ghost use Rattle.gim_names.specs.Mentions.{mentions_of};
 ghost use Rattle.gim_names.specs.NamesFault.{mention_fault, mentions_fault, function_text, function_fault, names_fault};

@@ -23,7 +23,8 @@ use crate::mention::Mention;
 use crate::mentions::mentions;
 use crate::past::Past;
 use crate::scope::Scope;
-use gim_text::{FunctionText, GimpleFault, GimpleKind, text};
+use gim_text::{FunctionText, GimpleFault, GimpleKind};
+use pm_places::text;
 use std::alloc::Global;
 use std::collections::HashSet;
 

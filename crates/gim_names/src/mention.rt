@@ -3,7 +3,7 @@
 ghost use Rattle.std.specs.Prelude.{◌≡◌};
 ghost use Rattle.gim_names.specs.Mentions.{place_of};
 
-use gim_text::Span;
+use pm_places::Span;
 
 /// A place of a function, and what stands there.
 #[derive(Clone, Copy)]

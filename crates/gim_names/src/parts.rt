@@ -1,11 +1,13 @@
 //! What a mention says that the rules on names compare.
 
 ghost use Rattle.std.specs.Prelude.{◌≡◌, option_map};
-ghost use Rattle.gim_text.specs.Texts.{name_parts, text_of};
+ghost use Rattle.gim_text.specs.Texts.{name_parts};
+ghost use Rattle.pm_places.specs.Spans.{text_of};
 ghost use Rattle.gim_names.specs.Parts as parts;
 
 use crate::mention::Mention;
-use gim_text::{Span, name_parts, text};
+use gim_text::name_parts;
+use pm_places::{Span, text};
 
 /// The base and the version of a name.
 pub(crate) fn parts_at(source: &[u8], at: Span) -> Option<(&[u8], &[u8])>

@@ -1,7 +1,8 @@
+use pm_places::Span;
 use super::*;
 use gim_text::{
     ArgText, BlockText, DeclText, EndText, ItemText, LiteralText, LiteralType, OperandText,
-    RightForm, RightText, Span,
+    RightForm, RightText,
 };
 use pm_items::Items;
 use pm_ops::{Code, OutOfMemory};

@@ -13,7 +13,8 @@ use Rattle.gim_text.specs.declared.fault.Part.TheVariants.{Outside}
 use Rattle.gim_text.specs.declared.token.Token.{Token}
 use Rattle.gim_text.specs.declared.tree.FunctionText.{FunctionText}
 use Rattle.gim_lexer.specs.Faults.{lex_fault}
-use Rattle.gim_lexer.proofs.Cutting.{same_tokens, no_tokens, one_fault as one_lex_fault}
+use Rattle.gim_lexer.proofs.Cutting.{same_tokens, no_tokens}
+use Rattle.lexing.proofs.Cutting.{one_fault as one_lex_fault}
 use Rattle.gim_syntax.specs.Grammar.{SpellsFile}
 use Rattle.gim_syntax.specs.Readers.{file_at}
 use Rattle.gim_syntax.specs.SyntaxFaults.{IsSyntaxFault, syntax_fault}

@@ -16,7 +16,8 @@ use Rattle.gim_syntax.specs.Grammar.{SpellsFile}
 use Rattle.gim_syntax.specs.SyntaxFaults.{IsRefused}
 use Rattle.gim_making.specs.Standing.{StandsFor}
 use Rattle.gim_ast.specs.WellFormed.{IsWellFormed}
-use Rattle.gim_text.specs.Faults.{Judges, or_fault}
+use Rattle.gim_text.specs.Faults.{Judges}
+use Rattle.pm_places.specs.FirstFaults.{or_fault}
 use Rattle.gim_names.specs.NamesFault.{names_fault}
 use Rattle.gim_shape.specs.Shape.{shape_fault}
 use Rattle.gim_shape.specs.Limits.{limits_fault}
@@ -24,7 +25,7 @@ use Rattle.gim_making.specs.Types.{types_fault}
 use Rattle.gim_making.specs.Judged.{IsSound}
 use Rattle.gim_making.proofs.Sound.{sound_files}
 use Rattle.gim_lexer.proofs.NumberTexts.{tokens_mean}
-use Rattle.gim_lexer.proofs.Placing.{tokens_in_order}
+use Rattle.gim_lexer.proofs.Cutting.{tokens_in_order}
 use Rattle.gim_reader.proofs.OneFile.{stand_once}
 use Rattle.gim_reader.proofs.WrittenLemmas.{few_tokens, file_written}
 use Rattle.gim_reader.specs.Files.{file_limit, rules_fault, FromTokens, of_syntax, of_rules, of_lexing, of_tokens, IsRefusal, by_memory, by_fault, IsTokensRefusal, tokens_by_memory, tokens_by_fault}

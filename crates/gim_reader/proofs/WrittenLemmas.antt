@@ -6,11 +6,12 @@ use Rattle.std.proofs.lemmas.List.Folds.{list_all-append}
 use Rattle.grammar.specs.Spelling.{Meant, Many}
 use Rattle.pm_wide.specs.Types.{Ty}
 use Rattle.pm_ops.specs.declared.code.Code.{Code}
-use Rattle.gim_ast.specs.Identifiers.{is_identifier, is_number_text, is_block_word}
+use Rattle.gim_ast.specs.Identifiers.{is_identifier, is_block_word}
+use Rattle.lexing.specs.Numbers.{is_number_text}
 use Rattle.gim_ast.specs.WellFormed.{is_type_of}
 use Rattle.gim_ast.proofs.ReadableLemmas.{all_left, all_right}
 use Rattle.gim_text.specs.declared.token.NumberKind.TheVariants.{Plain}
-use Rattle.gim_text.specs.declared.token.Span.{Span}
+use Rattle.pm_places.specs.declared.span.Span.{Span}
 use Rattle.gim_text.specs.declared.token.Token.{Token}
 use Rattle.gim_text.specs.declared.token.Token.TheVariants as tokens
 use Rattle.gim_text.specs.declared.token.TypeWord.{TypeWord}
@@ -30,7 +31,8 @@ use Rattle.gim_text.specs.declared.tree.RightForm.{RightForm}
 use Rattle.gim_text.specs.declared.tree.RightForm.TheVariants as rights
 use Rattle.gim_text.specs.declared.tree.RightText.{RightText}
 use Rattle.gim_text.specs.Meanings.{identifier, block_word, span_of}
-use Rattle.gim_text.specs.Texts.{text_of, block_digits}
+use Rattle.gim_text.specs.Texts.{block_digits}
+use Rattle.pm_places.specs.Spans.{text_of}
 use Rattle.gim_lexer.specs.Meant.{MeansItsText, AllMeanTheirTexts}
 use Rattle.gim_lexer.specs.Spelled.{InOrder}
 use Rattle.gim_marks.specs.Readers.{plain_number}

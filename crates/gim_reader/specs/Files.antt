@@ -6,7 +6,7 @@ use Rattle.gim_text.specs.declared.fault.GimpleFault.{GimpleFault}
 use Rattle.gim_text.specs.declared.fault.GimpleKind.TheVariants.{Memory, TooLarge}
 use Rattle.gim_text.specs.declared.token.Token.{Token}
 use Rattle.gim_text.specs.declared.tree.FunctionText.{FunctionText}
-use Rattle.gim_text.specs.Faults.{or_fault}
+use Rattle.pm_places.specs.FirstFaults.{or_fault}
 use Rattle.gim_lexer.specs.Cuts.{AreTokens, IsLexFault}
 use Rattle.gim_lexer.specs.Faults.{lex_fault}
 use Rattle.gim_syntax.specs.Grammar.{SpellsFile}

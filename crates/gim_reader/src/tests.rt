@@ -1,7 +1,7 @@
 //! Each kind of fault at each of its places, and whole files that are read.
 
 use crate::{GimpleKind, read};
-use gim_text::{Span, text};
+use pm_places::{Span, text};
 use std::process::Abort;
 use std::test::Fail;
 

@@ -15,15 +15,15 @@ use Rattle.pm_wide.proofs.Values.{width_positive, width_small}
 use Rattle.pm_wide.proofs.Words.{word-value, value_in_range}
 use Rattle.pm_wide.proofs.Wrapping.{small_value}
 use Rattle.gim_ast.specs.declared.function.Function.{Function}
-use Rattle.gim_ast.specs.Numbers.{number_after}
+use Rattle.lexing.specs.Numbers.{number_after, leading_digits}
 use Rattle.gim_printer.specs.Printing.{type_text, literal_text, suffix_of, constant_text}
 use Rattle.gim_ast.specs.WellFormed.{is_type_of, is_word}
-use Rattle.gim_ast.proofs.NumberLemmas.{number_text_is_digits}
+use Rattle.lexing.proofs.NumberLemmas.{number_text_is_digits, front_digits}
 use Rattle.gim_text.specs.declared.token.Keyword.TheVariants as keywords
 use Rattle.gim_text.specs.declared.token.Mark.TheVariants as marks
 use Rattle.gim_text.specs.declared.token.NumberKind.{NumberKind}
 use Rattle.gim_text.specs.declared.token.NumberKind.TheVariants as kinds
-use Rattle.gim_text.specs.declared.token.Span.{Span}
+use Rattle.pm_places.specs.declared.span.Span.{Span}
 use Rattle.gim_text.specs.declared.token.Token.{Token}
 use Rattle.gim_text.specs.declared.token.Token.TheVariants as tokens
 use Rattle.gim_text.specs.declared.tree.LiteralText.{LiteralText}
@@ -33,16 +33,15 @@ use Rattle.gim_text.specs.declared.tree.OperandText.{OperandText}
 use Rattle.gim_text.specs.declared.tree.OperandText.TheVariants as trees
 use Rattle.gim_text.specs.Literals.{signed, literal_type, word_by, literal_word}
 use Rattle.gim_text.specs.Meanings.{span_of}
-use Rattle.gim_text.specs.Texts.{text_of, leading_digits}
+use Rattle.pm_places.specs.Spans.{text_of, place}
 use Rattle.grammar.specs.Spelling.{Meant}
-use Rattle.gim_lexer.specs.Numbers.{is_suffix_letter, suffix_kind}
-use Rattle.gim_lexer.specs.Tokens.{place}
+use Rattle.gim_lexer.specs.Numbers.{suffix_kind}
+use Rattle.lexing.specs.Bytes.{is_suffix_letter}
 use Rattle.gim_marks.specs.Readers.{plain_number}
 use Rattle.gim_statements.specs.Grammar.{◌▸◌, AKeyword, BeginsAt, Signed, SpellsConstant, SpellsOperand, MayStandUnder}
 use Rattle.gim_statements.specs.Words.{literal_number}
 use Rattle.gim_round_trip.proofs.Prints.{Prints, word_end, joined, seen, blanks_before}
 use Rattle.gim_round_trip.proofs.Writes.{WritesOperand}
-use Rattle.gim_lexer.proofs.NumberTexts.{front_digits}
 use Rattle.gim_round_trip.proofs.Numbers.{NumberText, decimal_writes, written_number_prints}
 use Rattle.gim_round_trip.proofs.Tokens.{keyword_there, mark_there, a_mark_prints}
 use Rattle.gim_round_trip.proofs.TypeTexts.{type_text_prints}

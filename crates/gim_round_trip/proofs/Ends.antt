@@ -11,7 +11,7 @@ use Rattle.gim_ast.specs.declared.function.End.TheVariants as ends
 use Rattle.gim_ast.specs.Functions.{operands_of_end, targets_of}
 use Rattle.gim_printer.specs.Printing.{line, jump_text, condition_line, operand_text, sign_text, end_lines}
 use Rattle.gim_ast.specs.WellFormed.{IsWellFormed, end_fits}
-use Rattle.gim_text.specs.declared.token.Span.{Span}
+use Rattle.pm_places.specs.declared.span.Span.{Span}
 use Rattle.gim_text.specs.declared.token.Keyword.TheVariants as keywords
 use Rattle.gim_text.specs.declared.token.Mark.TheVariants as marks
 use Rattle.gim_text.specs.declared.tree.EndText.{EndText}

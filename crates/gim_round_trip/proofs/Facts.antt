@@ -21,7 +21,7 @@ use Rattle.gim_ast.specs.Identifiers.{is_anonymous, anonymous}
 use Rattle.gim_printer.specs.Printing.{name_text, assigned_text, type_of_name, base_of}
 use Rattle.gim_ast.specs.Readable.{is_initial}
 use Rattle.gim_ast.specs.WellFormed.{IsWellFormed, same_text, all_distinct, rises, base_holds, row_stands, initial_bases, names_hold, operand_holds, block_fits, phi_fits, stmt_fits, rhs_fits, numbers_of, is_among, is_assigned, blocks_hold, entry_has_no_phi, is_empty, predecessors, phi_blocks, phi_holds, type_of}
-use Rattle.gim_ast.proofs.NumberLemmas.{number_below-decimal, decimal_is_number_text}
+use Rattle.lexing.proofs.NumberLemmas.{number_below-decimal, decimal_is_number_text}
 use Rattle.gim_text.specs.Texts.{name_parts}
 use Rattle.gim_text.proofs.NameLemmas.{parts_found}
 use Rattle.gim_making.specs.Declarations.{number_of, number_limit}

@@ -8,8 +8,8 @@ use Rattle.gim_ast.specs.declared.function.Decl.{Decl}
 use Rattle.gim_ast.specs.Identifiers.{is_identifier}
 use Rattle.gim_printer.specs.Printing.{line, listed, type_text, declared_text, decl_line, block_text, head_text, function_text}
 use Rattle.gim_ast.specs.WellFormed.{IsWellFormed, ident_of}
-use Rattle.gim_text.specs.Texts.{text_of}
-use Rattle.gim_text.specs.declared.token.Span.{Span}
+use Rattle.pm_places.specs.Spans.{text_of}
+use Rattle.pm_places.specs.declared.span.Span.{Span}
 use Rattle.gim_text.specs.declared.token.Keyword.TheVariants as keywords
 use Rattle.gim_text.specs.declared.token.Mark.TheVariants as marks
 use Rattle.gim_text.specs.declared.tree.DeclText.{DeclText}

@@ -17,12 +17,13 @@ use Rattle.gim_ast.specs.Functions.{operands_of, row_of}
 use Rattle.gim_ast.specs.Identifiers.{anonymous}
 use Rattle.gim_printer.specs.Printing.{assigned_text}
 use Rattle.gim_ast.specs.WellFormed.{IsWellFormed, same_text, all_distinct, ident_of, declares_as, base_holds}
-use Rattle.gim_text.specs.declared.token.Span.{Span}
+use Rattle.pm_places.specs.declared.span.Span.{Span}
 use Rattle.gim_text.specs.declared.tree.DeclText.{DeclText}
 use Rattle.gim_text.specs.declared.tree.FunctionText.{FunctionText}
 use Rattle.gim_text.specs.declared.tree.OperandText.{OperandText}
 use Rattle.gim_text.specs.declared.tree.OperandText.TheVariants.{Name, Default, Literal}
-use Rattle.gim_text.specs.Texts.{text_of, name_parts}
+use Rattle.gim_text.specs.Texts.{name_parts}
+use Rattle.pm_places.specs.Spans.{text_of}
 use Rattle.gim_making.specs.Declarations.{declarations_of, declared_type, type_by_base, type_by_parts, type_of_name, version_by_parts, version_of_name}
 use Rattle.gim_making.specs.Trees.{no_word, operand_of}
 use Rattle.gim_making.proofs.Membership.{Has, has_left, has_right, has_map, any_has, none_has, none_from_has}

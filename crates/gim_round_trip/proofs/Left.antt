@@ -1,8 +1,7 @@
 -- What is left of a source from a place on.
 use Rattle.std.proofs.Common.{◌≡◌, ℕ, ◌+◌, ◌-◌, ◌≤◌, List, [], ◌∷◌, ◌++◌, length, take, drop, refl, sym, ap, ◌∙◌, arith}
 use Rattle.std.proofs.lemmas.List.{drop-drop, length-append, length-drop}
-use Rattle.gim_text.specs.Texts.{text_of}
-use Rattle.gim_lexer.specs.Tokens.{place}
+use Rattle.pm_places.specs.Spans.{text_of, place}
 
 pub record Left (source : List ℕ) (at : ℕ) (rest : List ℕ) : Type 0 where
   pub is : drop at source ≡ rest

@@ -8,13 +8,12 @@ use Rattle.std.proofs.lemmas.Bool.{and_from, and_right, ne_eqb}
 use Rattle.std.proofs.lemmas.List.{length-map}
 use Rattle.std.proofs.lemmas.Slice.Zip.{AllZip-long}
 use Rattle.gim_ast.specs.declared.function.Function.{Function}
-use Rattle.gim_ast.specs.Identifiers.{is_number_text}
-use Rattle.gim_ast.specs.Numbers.{number_below}
+use Rattle.lexing.specs.Numbers.{is_number_text, number_below}
 use Rattle.gim_ast.specs.WellFormed.{IsWellFormed, same_text}
-use Rattle.gim_ast.proofs.NumberLemmas.{number_below-decimal}
+use Rattle.lexing.proofs.NumberLemmas.{number_below-decimal}
 use Rattle.gim_text.specs.declared.tree.FunctionText.{FunctionText}
-use Rattle.gim_text.specs.Faults.{first_fault}
-use Rattle.gim_text.specs.Texts.{text_of}
+use Rattle.pm_places.specs.FirstFaults.{first_fault}
+use Rattle.pm_places.specs.Spans.{text_of}
 use Rattle.gim_shape.specs.declared.places.Place.{Place}
 use Rattle.gim_shape.specs.declared.places.Place.TheVariants.{Name, Block, Jump}
 use Rattle.gim_shape.specs.Blocks.{is_among}

@@ -2,15 +2,16 @@
 use Rattle.std.proofs.Common.{◌≡◌, ℕ, Bool, true, false, Some, None, List, [], ◌∷◌, ◌++◌, length, codes, refl, sym, ap, ◌∙◌}
 use Rattle.std.specs.Prelude.{◌==◌, ◌&&◌, not}
 use Rattle.std.proofs.lemmas.Bool.{and_parts, not-true, ne_eqb, false≢true}
-use Rattle.gim_ast.specs.Identifiers.{is_digit, is_letter}
+use Rattle.lexing.specs.Bytes.{is_digit, is_letter}
 use Rattle.gim_text.specs.declared.token.Mark.{Mark}
 use Rattle.gim_text.specs.declared.token.Mark.TheVariants as marks
 use Rattle.gim_text.specs.declared.token.Token.{Token}
 use Rattle.gim_text.specs.declared.token.Token.TheVariants as tokens
-use Rattle.gim_text.specs.Texts.{text_of}
+use Rattle.pm_places.specs.Spans.{text_of, place}
 use Rattle.gim_lexer.specs.Marks.{short_mark, long_mark}
-use Rattle.gim_lexer.specs.Separators.{is_space, separator_length}
-use Rattle.gim_lexer.specs.Tokens.{place, mark_at, token_of_text}
+use Rattle.gim_lexer.specs.Separators.{separator_length}
+use Rattle.lexing.specs.Separators.{is_space}
+use Rattle.gim_lexer.specs.Tokens.{mark_at, token_of_text}
 use Rattle.gim_round_trip.proofs.Prints.{Prints, Ends, any_end, blank_end, token_prints}
 use Rattle.gim_round_trip.proofs.Words.{begins_none}
 

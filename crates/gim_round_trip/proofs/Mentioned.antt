@@ -14,11 +14,12 @@ use Rattle.gim_ast.specs.Functions.{operands_of, assigned, assigned_in, phi_name
 use Rattle.gim_printer.specs.Printing.{assigned_text}
 use Rattle.gim_ast.specs.Readable.{is_initial}
 use Rattle.gim_ast.specs.WellFormed.{IsWellFormed, same_text, ident_of, is_assigned, base_holds, phi_fits, stmt_fits}
-use Rattle.gim_text.specs.declared.token.Span.{Span}
+use Rattle.pm_places.specs.declared.span.Span.{Span}
 use Rattle.gim_text.specs.declared.tree.FunctionText.{FunctionText}
 use Rattle.gim_text.specs.declared.tree.OperandText.{OperandText}
 use Rattle.gim_text.specs.declared.tree.OperandText.TheVariants.{Name, Default, Literal}
-use Rattle.gim_text.specs.Texts.{text_of, name_parts}
+use Rattle.gim_text.specs.Texts.{name_parts}
+use Rattle.pm_places.specs.Spans.{text_of}
 use Rattle.gim_names.specs.declared.mention.Mention.{Mention}
 use Rattle.gim_names.specs.declared.mention.Mention.TheVariants.{Param, Local, Block, Assigned, Used, UsedDefault, Constant}
 use Rattle.gim_names.specs.Mentions.{mentions_of, mention_of_operand}

@@ -20,7 +20,7 @@ use Rattle.gim_ast.specs.Functions.{is_name, operands_of, operands_of_block, ope
 use Rattle.gim_printer.specs.Printing.{assigned_text, type_of_name}
 use Rattle.gim_ast.specs.Readable.{is_initial}
 use Rattle.gim_ast.specs.WellFormed.{is_assigned}
-use Rattle.gim_text.specs.declared.token.Span.{Span}
+use Rattle.pm_places.specs.declared.span.Span.{Span}
 use Rattle.gim_text.specs.declared.tree.BlockText.{BlockText}
 use Rattle.gim_text.specs.declared.tree.EndText.{EndText}
 use Rattle.gim_text.specs.declared.tree.EndText.TheVariants.{Goto, If, Return}
@@ -31,7 +31,7 @@ use Rattle.gim_text.specs.declared.tree.OperandText.{OperandText}
 use Rattle.gim_text.specs.declared.tree.OperandText.TheVariants.{Name, Default, Literal}
 use Rattle.gim_text.specs.declared.tree.RightForm.{RightForm}
 use Rattle.gim_text.specs.declared.tree.RightForm.TheVariants.{Copy, Unary, Cast, Binary, Choice}
-use Rattle.gim_text.specs.Texts.{text_of}
+use Rattle.pm_places.specs.Spans.{text_of}
 use Rattle.gim_making.specs.declared.places.NamePlace.{NamePlace}
 use Rattle.gim_making.specs.Names.{plain, default_at, names_of_operand, names_of_arg, names_of_form, names_of_item, names_of_end, names_of_block}
 use Rattle.gim_making.proofs.Membership.{Has, has_left, has_right, has_either, has_map, from_map, has_flat, from_flat, any_has}

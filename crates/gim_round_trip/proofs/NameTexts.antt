@@ -10,17 +10,19 @@ use Rattle.gim_ast.specs.declared.function.Function.{Function}
 use Rattle.gim_ast.specs.declared.function.Decl.{Decl}
 use Rattle.gim_ast.specs.declared.function.NameRow.{NameRow}
 use Rattle.gim_ast.specs.Functions.{row_of}
-use Rattle.gim_ast.specs.Identifiers.{is_letter, is_word_byte, is_word_text, is_number_text, is_block_word, is_reserved, is_identifier, anonymous, reserved_words}
+use Rattle.gim_ast.specs.Identifiers.{is_block_word, is_reserved, is_identifier, anonymous, reserved_words}
+use Rattle.lexing.specs.Bytes.{is_letter, is_word_byte}
+use Rattle.lexing.specs.Words.{is_word_text}
+use Rattle.lexing.specs.Numbers.{is_number_text}
 use Rattle.gim_printer.specs.Printing.{assigned_text}
 use Rattle.gim_ast.specs.WellFormed.{IsWellFormed, same_text, ident_of, declares_as, base_holds}
-use Rattle.gim_ast.proofs.NumberLemmas.{decimal_is_number_text, number_text_is_digits}
+use Rattle.lexing.proofs.NumberLemmas.{decimal_is_number_text, number_text_is_digits, number_is_word}
 use Rattle.gim_text.specs.Texts.{name_parts}
 use Rattle.gim_text.proofs.NameLemmas.{no_parts_at}
 use Rattle.gim_making.proofs.Membership.{Has, has_map, has_left, has_right, all_has, none_from_has, any_has}
 use Rattle.gim_making.proofs.PartLemmas.{same_text_is}
 use Rattle.gim_round_trip.specs.ReadBack.{IsWithinLimits}
 use Rattle.gim_round_trip.proofs.Facts.{name_facts}
-use Rattle.gim_lexer.proofs.LongestMatch.{number_is_word}
 
 -- ---- reserved words are no names
 

@@ -3,17 +3,18 @@ use Rattle.std.proofs.Common.{◌≡◌, ℕ, Bool, true, false, Option, Some, N
 use Rattle.std.specs.List.{AllByRecursion, AllZip, list_any}
 use Rattle.gim_ast.specs.declared.function.Function.{Function}
 use Rattle.gim_ast.specs.WellFormed.{IsWellFormed, same_text, all_distinct}
-use Rattle.gim_text.specs.declared.token.Span.{Span}
+use Rattle.pm_places.specs.declared.span.Span.{Span}
 use Rattle.gim_text.specs.declared.fault.GimpleFault.{GimpleFault}
 use Rattle.gim_text.specs.declared.fault.GimpleKind.{GimpleKind}
 use Rattle.gim_text.specs.declared.fault.GimpleKind.TheVariants.{Redefined}
 use Rattle.gim_text.specs.declared.tree.FunctionText.{FunctionText}
-use Rattle.gim_text.specs.Faults.{fault_at, or_fault}
+use Rattle.gim_text.specs.Faults.{fault_at}
+use Rattle.pm_places.specs.FirstFaults.{or_fault, first_by}
 use Rattle.gim_names.specs.declared.mention.Mention.{Mention}
 use Rattle.gim_names.specs.Mentions.{place_of, mentions_of}
 use Rattle.gim_names.specs.Parts.{all_said}
 use Rattle.gim_names.specs.Rules.{stands, is_redefined, is_undeclared, is_wide}
-use Rattle.gim_names.specs.NamesFault.{first_by, first_kind, mention_fault, mentions_fault, function_text, second_function, function_fault, names_fault}
+use Rattle.gim_names.specs.NamesFault.{first_kind, mention_fault, mentions_fault, function_text, second_function, function_fault, names_fault}
 use Rattle.gim_names.proofs.Saying.{each_says}
 use Rattle.gim_round_trip.specs.ReadBack.{IsWithinLimits, function_names}
 use Rattle.gim_round_trip.proofs.Never.{NeverBy, never_twice}

@@ -8,13 +8,14 @@ use Rattle.pm_wide.specs.Types.{Ty}
 use Rattle.gim_ast.specs.declared.function.Function.{Function}
 use Rattle.gim_ast.specs.declared.function.Decl.{Decl}
 use Rattle.gim_ast.specs.declared.function.NameRow.{NameRow}
-use Rattle.gim_ast.specs.Identifiers.{is_number_text, is_anonymous, anonymous}
+use Rattle.gim_ast.specs.Identifiers.{is_anonymous, anonymous}
+use Rattle.lexing.specs.Numbers.{is_number_text}
 use Rattle.gim_ast.specs.Functions.{is_used}
 use Rattle.gim_ast.specs.WellFormed.{same_text, rises, declares_as, base_holds, is_assigned}
-use Rattle.gim_ast.proofs.NumberLemmas.{decimal_is_number_text}
-use Rattle.gim_text.specs.declared.token.Span.{Span}
+use Rattle.lexing.proofs.NumberLemmas.{decimal_is_number_text}
+use Rattle.pm_places.specs.declared.span.Span.{Span}
 use Rattle.gim_text.specs.declared.tree.FunctionText.{FunctionText}
-use Rattle.gim_text.specs.Texts.{text_of}
+use Rattle.pm_places.specs.Spans.{text_of}
 use Rattle.gim_making.specs.declared.places.NamePlace.{NamePlace}
 use Rattle.gim_making.specs.Declarations.{declarations_of, type_of_name, number_of}
 use Rattle.gim_making.specs.Names.{AreNames, plain, first_of, version_of, names_of_decl, names_of_block, names_in, rows_by_parts, rows_of_place, named_rows}

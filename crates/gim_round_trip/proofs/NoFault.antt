@@ -2,8 +2,8 @@
 use Rattle.std.proofs.Common.{◌≡◌, List, [], ◌∷◌, ◌++◌, Option, None, refl, ap, ◌∙◌, inl, inr}
 use Rattle.std.specs.List.{flat_map}
 use Rattle.gim_text.specs.declared.fault.GimpleFault.{GimpleFault}
-use Rattle.gim_text.specs.Faults.{first_fault, or_fault}
-use Rattle.gim_shape.proofs.JudgingLemmas.{first_fault-append}
+use Rattle.pm_places.specs.FirstFaults.{first_fault, or_fault}
+use Rattle.pm_places.proofs.FaultLemmas.{first_fault-append}
 use Rattle.gim_making.proofs.Membership.{Has}
 
 pub none_joined : (xs ys : List (Option GimpleFault)) → first_fault xs ≡ None → first_fault ys ≡ None → first_fault (xs ++ ys) ≡ None

@@ -11,18 +11,19 @@ use Rattle.std.proofs.lemmas.List.Folds.{list_all-append}
 use Rattle.std.proofs.lemmas.Nat.{div-add-mod'}
 use Rattle.std.proofs.Math.Nat.{mod-lt}
 use Rattle.std.proofs.Math.Seq.{take-append_seam, drop-append_seam}
-use Rattle.gim_ast.specs.Identifiers.{is_digit, is_number_text, is_word_byte}
-use Rattle.gim_ast.specs.Numbers.{number_after}
-use Rattle.gim_ast.proofs.NumberLemmas.{number_text_is_digits}
+use Rattle.lexing.specs.Bytes.{is_digit, is_word_byte, is_suffix_letter}
+use Rattle.lexing.specs.Numbers.{is_number_text, number_after}
+use Rattle.lexing.proofs.NumberLemmas.{number_text_is_digits}
 use Rattle.gim_text.specs.declared.token.NumberKind.{NumberKind}
 use Rattle.gim_text.specs.declared.token.Token.{Token}
 use Rattle.gim_text.specs.declared.token.Token.TheVariants as tokens
-use Rattle.gim_text.specs.Texts.{text_of}
-use Rattle.gim_lexer.specs.Numbers.{is_suffix_letter, suffix_kind, number_kind}
-use Rattle.gim_lexer.specs.Separators.{is_space, separator_length}
-use Rattle.gim_lexer.specs.Tokens.{place, number_at, token_of_text}
+use Rattle.pm_places.specs.Spans.{text_of, place}
+use Rattle.gim_lexer.specs.Numbers.{suffix_kind, number_kind}
+use Rattle.gim_lexer.specs.Separators.{separator_length}
+use Rattle.lexing.specs.Separators.{is_space}
+use Rattle.gim_lexer.specs.Tokens.{number_at, token_of_text}
 use Rattle.gim_lexer.proofs.LongestMatch.{number_begins}
-use Rattle.gim_lexer.proofs.NumberTexts.{letter_is_no_digit}
+use Rattle.lexing.proofs.ByteLemmas.{letter_is_no_digit}
 use Rattle.gim_round_trip.proofs.Prints.{Prints, Ends, word_end, token_prints}
 use Rattle.gim_round_trip.proofs.Words.{run_over, begins_none}
 

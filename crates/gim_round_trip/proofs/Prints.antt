@@ -4,15 +4,17 @@ use Rattle.std.specs.Prelude.{option_map}
 use Rattle.std.specs.List.{list_all}
 use Rattle.std.proofs.lemmas.Bool.{and_parts}
 use Rattle.std.proofs.lemmas.List.{append_assoc, append-nil}
-use Rattle.gim_ast.specs.Identifiers.{is_word_byte}
-use Rattle.gim_text.specs.declared.token.Span.{Span}
+use Rattle.lexing.specs.Bytes.{is_word_byte}
+use Rattle.pm_places.specs.declared.span.Span.{Span}
 use Rattle.gim_text.specs.declared.token.Token.{Token}
 use Rattle.gim_text.specs.Meanings.{span_of}
-use Rattle.gim_text.specs.Texts.{text_of}
-use Rattle.gim_lexer.specs.Separators.{is_space, separator_length}
-use Rattle.gim_lexer.specs.Tokens.{place, token_of_text}
-use Rattle.gim_lexer.specs.Cuts.{line_begins, separator_at, token_at, Cuts, done, separator, token}
-use Rattle.gim_lexer.proofs.Cutting.{cuts_further}
+use Rattle.pm_places.specs.Spans.{text_of, place}
+use Rattle.gim_lexer.specs.Separators.{separator_length}
+use Rattle.lexing.specs.Separators.{is_space}
+use Rattle.gim_lexer.specs.Tokens.{token_of_text}
+use Rattle.gim_lexer.specs.Cuts.{line_begins, separator_at, token_at, Cuts}
+use Rattle.lexing.specs.Cuts.{done, separator, token}
+use Rattle.lexing.proofs.Cutting.{cuts_further}
 use Rattle.gim_statements.specs.Grammar.{◌▸◌}
 use Rattle.gim_round_trip.proofs.Left.{Left, behind, text_there}
 

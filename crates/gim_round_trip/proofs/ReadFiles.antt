@@ -8,10 +8,10 @@ use Rattle.std.proofs.lemmas.List.{length-map}
 use Rattle.gim_ast.specs.declared.function.Function.{Function}
 use Rattle.gim_ast.specs.declared.function.Block.{Block}
 use Rattle.gim_ast.specs.declared.function.NameRow.{NameRow}
-use Rattle.gim_ast.specs.Numbers.{number_below}
+use Rattle.lexing.specs.Numbers.{number_below}
 use Rattle.gim_printer.specs.Printing.{text}
 use Rattle.gim_ast.specs.WellFormed.{same_text, all_distinct}
-use Rattle.gim_ast.proofs.NumberLemmas.{number_below_is}
+use Rattle.lexing.proofs.NumberLemmas.{number_below_is}
 use Rattle.gim_text.specs.declared.tree.FunctionText.{FunctionText}
 use Rattle.gim_names.specs.Kept.{KeepsNames}
 use Rattle.gim_names.specs.NamesFault.{function_text}

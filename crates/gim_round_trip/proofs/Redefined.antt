@@ -13,9 +13,10 @@ use Rattle.gim_ast.specs.Functions.{assigned}
 use Rattle.gim_ast.specs.Identifiers.{is_anonymous, anonymous}
 use Rattle.gim_printer.specs.Printing.{assigned_text}
 use Rattle.gim_ast.specs.WellFormed.{IsWellFormed, same_text, all_distinct, ident_of, initial_bases, numbers_of}
-use Rattle.gim_ast.proofs.NumberLemmas.{decimal_is_number_text}
+use Rattle.lexing.proofs.NumberLemmas.{decimal_is_number_text}
 use Rattle.gim_text.specs.declared.tree.FunctionText.{FunctionText}
-use Rattle.gim_text.specs.Texts.{text_of, name_parts}
+use Rattle.gim_text.specs.Texts.{name_parts}
+use Rattle.pm_places.specs.Spans.{text_of}
 use Rattle.gim_text.proofs.NameLemmas.{parts_found}
 use Rattle.gim_names.specs.declared.mention.Mention.{Mention}
 use Rattle.gim_names.specs.declared.mention.Mention.TheVariants.{Param, Local, Block as BlockAt, Assigned, Used, UsedDefault, Constant}

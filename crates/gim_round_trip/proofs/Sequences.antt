@@ -6,8 +6,8 @@ use Rattle.grammar.specs.Spelling.{Many}
 use Rattle.gim_printer.specs.Printing.{listed}
 use Rattle.gim_text.specs.declared.token.Token.{Token}
 use Rattle.gim_text.specs.declared.token.Mark.TheVariants as marks
-use Rattle.gim_lexer.specs.Cuts.{done}
-use Rattle.gim_lexer.proofs.Cutting.{cuts_further}
+use Rattle.lexing.specs.Cuts.{done}
+use Rattle.lexing.proofs.Cutting.{cuts_further}
 use Rattle.gim_making.proofs.Membership.{Has}
 use Rattle.gim_statements.specs.Grammar.{◌▸◌, AMark}
 use Rattle.gim_round_trip.proofs.Left.{Left}

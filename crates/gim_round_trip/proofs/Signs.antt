@@ -7,10 +7,10 @@ use Rattle.pm_ops.specs.Codes.{is_comparison_code}
 use Rattle.gim_printer.specs.Printing.{sign_text}
 use Rattle.gim_text.specs.declared.token.Mark.{Mark}
 use Rattle.gim_text.specs.declared.token.Mark.TheVariants as marks
-use Rattle.gim_text.specs.declared.token.Span.{Span}
+use Rattle.pm_places.specs.declared.span.Span.{Span}
 use Rattle.gim_text.specs.declared.token.Token.{Token}
 use Rattle.gim_text.specs.declared.token.Token.TheVariants as tokens
-use Rattle.gim_lexer.specs.Tokens.{place}
+use Rattle.pm_places.specs.Spans.{place}
 use Rattle.grammar.specs.Spelling.{Meant}
 use Rattle.gim_statements.specs.Words.{comparison_code, infix_code}
 use Rattle.gim_round_trip.proofs.Prints.{Prints, any_end, blanks_before, blanks_after}

@@ -5,10 +5,12 @@ use Rattle.std.proofs.lemmas.Bool.{false≢true}
 use Rattle.std.proofs.lemmas.List.{append-nil}
 use Rattle.pm_ops.specs.declared.code.Code.{Code}
 use Rattle.pm_ops.specs.Codes.{is_comparison_code}
-use Rattle.gim_ast.specs.Identifiers.{is_word_text, is_number_text, is_identifier}
+use Rattle.gim_ast.specs.Identifiers.{is_identifier}
+use Rattle.lexing.specs.Words.{is_word_text}
+use Rattle.lexing.specs.Numbers.{is_number_text}
 use Rattle.gim_printer.specs.Printing.{sign_text}
-use Rattle.gim_ast.proofs.NumberLemmas.{decimal_is_number_text}
-use Rattle.gim_text.specs.declared.token.Span.{Span}
+use Rattle.lexing.proofs.NumberLemmas.{decimal_is_number_text, number_is_word}
+use Rattle.pm_places.specs.declared.span.Span.{Span}
 use Rattle.gim_text.specs.declared.token.Token.{Token}
 use Rattle.gim_text.specs.declared.token.Token.TheVariants as tokens
 use Rattle.gim_text.specs.declared.token.Keyword.{Keyword}
@@ -17,9 +19,8 @@ use Rattle.gim_text.specs.declared.token.Mark.{Mark}
 use Rattle.gim_text.specs.declared.token.Mark.TheVariants as marks
 use Rattle.gim_text.specs.declared.token.NumberKind.TheVariants.{Plain}
 use Rattle.gim_text.specs.Meanings.{mark, keyword, identifier, block_word}
-use Rattle.gim_text.specs.Texts.{text_of}
+use Rattle.pm_places.specs.Spans.{text_of, place}
 use Rattle.grammar.specs.Spelling.{Meant}
-use Rattle.gim_lexer.specs.Tokens.{place}
 use Rattle.gim_lexer.specs.Words.{word_token}
 use Rattle.gim_marks.specs.Readers.{plain_number}
 use Rattle.gim_statements.specs.Grammar.{AMark, AKeyword}
@@ -28,7 +29,6 @@ use Rattle.gim_syntax.specs.Grammar.{IsSsa}
 use Rattle.gim_round_trip.proofs.Prints.{Prints, any_end, word_end, blank_end, seen}
 use Rattle.gim_round_trip.proofs.Writes.{NamesBlock}
 use Rattle.gim_round_trip.proofs.Words.{word_prints, identifier_is_word, identifier_means}
-use Rattle.gim_lexer.proofs.LongestMatch.{number_is_word}
 use Rattle.gim_round_trip.proofs.Numbers.{written_number_prints}
 use Rattle.gim_round_trip.proofs.Marks.{IsMarkText, one_byte, mark_text_prints, assign_mark, semicolon_mark, spaced_mark_prints}
 use Rattle.gim_round_trip.proofs.Signs.{infix_sign_prints, comparison_sign_prints}

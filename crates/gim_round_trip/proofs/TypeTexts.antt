@@ -4,16 +4,16 @@ use Rattle.std.specs.Prelude.{◌==◌, ◌&&◌, ◌||◌}
 use Rattle.std.proofs.lemmas.Bool.{eqb-true, false≢true}
 use Rattle.std.proofs.lemmas.List.{map-append}
 use Rattle.pm_wide.specs.Types.{Ty}
-use Rattle.gim_ast.specs.Identifiers.{is_word_text}
+use Rattle.lexing.specs.Words.{is_word_text}
 use Rattle.gim_printer.specs.Printing.{type_text}
 use Rattle.gim_ast.specs.WellFormed.{is_type_of}
-use Rattle.gim_text.specs.declared.token.Span.{Span}
+use Rattle.pm_places.specs.declared.span.Span.{Span}
 use Rattle.gim_text.specs.declared.token.Token.{Token}
 use Rattle.gim_text.specs.declared.token.Token.TheVariants as tokens
 use Rattle.gim_text.specs.declared.token.TypeWord.{TypeWord}
 use Rattle.gim_text.specs.declared.token.TypeWord.TheVariants as words
 use Rattle.gim_text.specs.Meanings.{type_word}
-use Rattle.gim_lexer.specs.Tokens.{place}
+use Rattle.pm_places.specs.Spans.{place}
 use Rattle.gim_lexer.specs.Words.{word_token}
 use Rattle.gim_types.specs.Grammar.{SpellsType, forms, some_word}
 use Rattle.gim_statements.specs.Grammar.{◌▸◌}

@@ -18,7 +18,7 @@ use Rattle.gim_ast.specs.Functions.{operands_of, operands_of_end}
 use Rattle.gim_printer.specs.Printing as printing
 use Rattle.gim_ast.specs.WellFormed.{IsWellFormed, type_of, rhs_fits, end_fits}
 use Rattle.gim_text.specs.declared.fault.GimpleFault.{GimpleFault}
-use Rattle.gim_text.specs.declared.token.Span.{Span}
+use Rattle.pm_places.specs.declared.span.Span.{Span}
 use Rattle.gim_text.specs.declared.tree.BlockText.{BlockText}
 use Rattle.gim_text.specs.declared.tree.EndText.{EndText}
 use Rattle.gim_text.specs.declared.tree.EndText.TheVariants.{Goto, If, Return}
@@ -28,7 +28,7 @@ use Rattle.gim_text.specs.declared.tree.ItemText.TheVariants as items
 use Rattle.gim_text.specs.declared.tree.OperandText.{OperandText}
 use Rattle.gim_text.specs.declared.tree.RightForm.{RightForm}
 use Rattle.gim_text.specs.declared.tree.RightForm.TheVariants.{Copy, Unary, Cast, Binary, Choice}
-use Rattle.gim_text.specs.Faults.{first_fault}
+use Rattle.pm_places.specs.FirstFaults.{first_fault}
 use Rattle.gim_making.specs.Declarations.{Declarations, declarations_of, type_of_name}
 use Rattle.gim_making.specs.Standing.{StandsFor}
 use Rattle.gim_making.specs.Trees.{rhs_of}

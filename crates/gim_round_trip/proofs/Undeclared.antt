@@ -13,8 +13,9 @@ use Rattle.gim_ast.specs.Identifiers.{is_anonymous, anonymous}
 use Rattle.gim_printer.specs.Printing.{assigned_text}
 use Rattle.gim_ast.specs.WellFormed.{IsWellFormed, same_text, ident_of, declares_as, is_assigned}
 use Rattle.gim_text.specs.declared.tree.FunctionText.{FunctionText}
-use Rattle.gim_text.specs.declared.token.Span.{Span}
-use Rattle.gim_text.specs.Texts.{text_of, name_parts}
+use Rattle.pm_places.specs.declared.span.Span.{Span}
+use Rattle.gim_text.specs.Texts.{name_parts}
+use Rattle.pm_places.specs.Spans.{text_of}
 use Rattle.gim_names.specs.declared.mention.Mention.{Mention}
 use Rattle.gim_names.specs.declared.mention.Mention.TheVariants.{Param, Local, Block, Assigned, Used, UsedDefault, Constant}
 use Rattle.gim_names.specs.Mentions.{mentions_of}

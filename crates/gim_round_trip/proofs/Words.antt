@@ -7,19 +7,23 @@ use Rattle.std.proofs.lemmas.Bool.{and_parts, and_from, or_parts, not-true, fals
 use Rattle.std.proofs.lemmas.Bool.Decides.{nat_tests}
 use Rattle.std.proofs.lemmas.List.Folds.{list_any-append}
 use Rattle.std.proofs.Math.Seq.{take-append_seam}
-use Rattle.gim_ast.specs.Identifiers.{is_letter, is_word_byte, is_word_text, is_block_word, is_reserved, is_identifier, reserved_words}
-use Rattle.gim_text.specs.declared.token.Span.{Span}
+use Rattle.gim_ast.specs.Identifiers.{is_block_word, is_reserved, is_identifier, reserved_words}
+use Rattle.lexing.specs.Bytes.{is_letter, is_word_byte}
+use Rattle.lexing.specs.Words.{is_word_text}
+use Rattle.pm_places.specs.declared.span.Span.{Span}
 use Rattle.gim_text.specs.declared.token.Token.{Token}
 use Rattle.gim_text.specs.declared.token.Token.TheVariants as tokens
 use Rattle.gim_text.specs.declared.token.TypeWord.{TypeWord}
 use Rattle.gim_text.specs.declared.token.Keyword.{Keyword}
 use Rattle.gim_text.specs.Meanings.{identifier}
-use Rattle.gim_text.specs.Texts.{text_of}
-use Rattle.gim_lexer.specs.Separators.{is_space, separator_length}
-use Rattle.gim_lexer.specs.Tables.{beside}
-use Rattle.gim_lexer.specs.Tokens.{place, word_at, token_of_text}
+use Rattle.pm_places.specs.Spans.{text_of, place}
+use Rattle.gim_lexer.specs.Separators.{separator_length}
+use Rattle.lexing.specs.Separators.{is_space}
+use Rattle.lexing.specs.Tables.{beside}
+use Rattle.gim_lexer.specs.Tokens.{word_at, token_of_text}
 use Rattle.gim_lexer.specs.Words.{type_words, keyword_table, type_word_of, keyword_of, plain_word, word_token}
-use Rattle.gim_lexer.proofs.Fronts.{word_place, letter_is_word}
+use Rattle.gim_lexer.proofs.Fronts.{word_place}
+use Rattle.lexing.proofs.ByteLemmas.{letter_is_word}
 use Rattle.gim_lexer.proofs.LongestMatch.{word_begins}
 use Rattle.gim_round_trip.proofs.Prints.{Prints, Ends, word_end, token_prints}
 

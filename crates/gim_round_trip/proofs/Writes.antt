@@ -17,7 +17,7 @@ use Rattle.gim_ast.specs.declared.function.End.{End}
 use Rattle.gim_ast.specs.declared.function.End.TheVariants as ends
 use Rattle.gim_printer.specs.Printing.{assigned_text, type_of_name}
 use Rattle.gim_ast.specs.Readable.{is_initial}
-use Rattle.gim_text.specs.declared.token.Span.{Span}
+use Rattle.pm_places.specs.declared.span.Span.{Span}
 use Rattle.gim_text.specs.declared.tree.FunctionText.{FunctionText}
 use Rattle.gim_text.specs.declared.tree.DeclText.{DeclText}
 use Rattle.gim_text.specs.declared.tree.BlockText.{BlockText}
@@ -31,7 +31,8 @@ use Rattle.gim_text.specs.declared.tree.OperandText.TheVariants.{Name, Default, 
 use Rattle.gim_text.specs.declared.tree.EndText.{EndText}
 use Rattle.gim_text.specs.declared.tree.EndText.TheVariants.{Goto, If, Return}
 use Rattle.gim_text.specs.Literals.{literal_word}
-use Rattle.gim_text.specs.Texts.{text_of, block_digits}
+use Rattle.gim_text.specs.Texts.{block_digits}
+use Rattle.pm_places.specs.Spans.{text_of}
 
 -- a name as it stands where it is assigned, and as a default definition before its mark; a constant by its word
 abbrev pub WritesOperand : List ℕ → Function → OperandText → Operand → Type 0

@@ -6,17 +6,14 @@ use Rattle.std.proofs.lemmas.List.Concat.{flat_map-cons}
 use Rattle.gim_text.specs.declared.fault.GimpleFault.{GimpleFault}
 use Rattle.gim_text.specs.declared.fault.GimpleKind.{GimpleKind}
 use Rattle.gim_text.specs.declared.fault.GimpleKind.TheVariants.{Memory}
-use Rattle.gim_text.specs.Faults.{first_fault, or_fault, IsFault, Judges}
+use Rattle.gim_text.specs.Faults.{IsFault, Judges}
+use Rattle.pm_places.specs.FirstFaults.{first_fault, or_fault}
 use Rattle.gim_shape.proofs.ListLemmas.{drop_step}
+use Rattle.pm_places.proofs.FaultLemmas.{first_fault-append}
 
 pub fault_along : (kind : GimpleKind) (fault : GimpleFault) (a b : Option GimpleFault) → (a ≡ Some fault → b ≡ Some fault) → IsFault kind fault a → IsFault kind fault b
 fault_along Memory fault a b h is = tt
 fault_along _ fault a b h is = h is
-
-pub first_fault-append : (xs ys : List (Option GimpleFault)) → first_fault (xs ++ ys) ≡ or_fault (first_fault xs) (first_fault ys)
-first_fault-append [] ys = refl
-first_fault-append (None ∷ xs) ys = first_fault-append xs ys
-first_fault-append (Some fault ∷ xs) ys = refl
 
 -- a fault among the first places, and a judgement of the others after places without one
 pub front : (xs ys : List (Option GimpleFault)) (fault : GimpleFault) → IsFault fault.kind fault (first_fault xs) → IsFault fault.kind fault (first_fault (xs ++ ys))

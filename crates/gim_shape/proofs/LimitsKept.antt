@@ -6,8 +6,8 @@ use Rattle.std.specs.Option.{option_map_or}
 use Rattle.std.proofs.lemmas.List.Concat.{flat_map-cons}
 use Rattle.std.proofs.lemmas.List.Elements.{filter_map-append}
 use Rattle.std.proofs.lemmas.Bool.{eq-eqb}
-use Rattle.gim_ast.specs.Identifiers.{is_number_text, is_anonymous}
-use Rattle.gim_ast.specs.Numbers.{number_below}
+use Rattle.gim_ast.specs.Identifiers.{is_anonymous}
+use Rattle.lexing.specs.Numbers.{is_number_text, number_below}
 use Rattle.gim_ast.specs.WellFormed.{same_text}
 use Rattle.gim_text.specs.declared.fault.GimpleFault.{GimpleFault}
 use Rattle.gim_text.specs.declared.fault.GimpleKind.TheVariants.{TooLarge}
@@ -22,8 +22,9 @@ use Rattle.gim_text.specs.declared.tree.OperandText.{OperandText}
 use Rattle.gim_text.specs.declared.tree.OperandText.TheVariants as operands
 use Rattle.gim_text.specs.declared.tree.EndText.{EndText}
 use Rattle.gim_text.specs.declared.tree.EndText.TheVariants.{Goto, If, Return}
-use Rattle.gim_text.specs.Texts.{text_of}
-use Rattle.gim_text.specs.Faults.{fault_at, first_fault}
+use Rattle.pm_places.specs.Spans.{text_of}
+use Rattle.gim_text.specs.Faults.{fault_at}
+use Rattle.pm_places.specs.FirstFaults.{first_fault}
 use Rattle.gim_shape.specs.declared.places.Place.{Place}
 use Rattle.gim_shape.specs.declared.places.Place.TheVariants.{Name, Block, Jump}
 use Rattle.gim_shape.specs.Blocks.{is_among, named_at}

@@ -1,10 +1,11 @@
 -- The places of a function, by its tables.
 use Rattle.std.proofs.Common.{◌≡◌, ℕ, Bool, true, false, List, ◌∷◌, ◌++◌, Result, sym, ap, subst, ◌∙◌}
 use Rattle.std.specs.List.{flat_map}
-use Rattle.gim_text.specs.declared.token.Span.{Span}
+use Rattle.pm_places.specs.declared.span.Span.{Span}
 use Rattle.gim_text.specs.declared.fault.GimpleFault.{GimpleFault}
 use Rattle.gim_text.specs.declared.tree.BlockText.{BlockText}
-use Rattle.gim_text.specs.Faults.{first_fault, Judges}
+use Rattle.gim_text.specs.Faults.{Judges}
+use Rattle.pm_places.specs.FirstFaults.{first_fault}
 use Rattle.gim_shape.specs.Blocks.{is_among, numbers_of, predecessors}
 use Rattle.gim_shape.specs.Shape.{block_faults, body_faults}
 

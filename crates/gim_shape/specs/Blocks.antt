@@ -3,11 +3,12 @@ use Rattle.std.specs.Prelude.{ℕ, Bool, List, [], ◌∷◌, map, filter}
 use Rattle.std.specs.List.{list_any}
 use Rattle.std.specs.Option.{option_map_or}
 use Rattle.gim_ast.specs.WellFormed.{same_text}
-use Rattle.gim_text.specs.declared.token.Span.{Span}
+use Rattle.pm_places.specs.declared.span.Span.{Span}
 use Rattle.gim_text.specs.declared.tree.BlockText.{BlockText}
 use Rattle.gim_text.specs.declared.tree.EndText.{EndText}
 use Rattle.gim_text.specs.declared.tree.EndText.TheVariants.{Goto, If, Return}
-use Rattle.gim_text.specs.Texts.{text_of, block_digits}
+use Rattle.gim_text.specs.Texts.{block_digits}
+use Rattle.pm_places.specs.Spans.{text_of}
 
 -- the text is one of these
 abbrev pub is_among : List (List ℕ) → List ℕ → Bool

@@ -2,14 +2,15 @@
 use Rattle.std.specs.Prelude.{ℕ, suc, Bool, false, not, ◌&&◌, ◌||◌, ◌==◌, is_none, Option, Some, None, option_map, List, [], ◌∷◌, if◌then◌else◌}
 use Rattle.std.specs.List.{flat_map, filter_map}
 use Rattle.std.specs.Option.{option_map_or}
-use Rattle.gim_ast.specs.Identifiers.{is_number_text}
-use Rattle.gim_ast.specs.Numbers.{number_below}
-use Rattle.gim_text.specs.declared.token.Span.{Span}
+use Rattle.lexing.specs.Numbers.{is_number_text, number_below}
+use Rattle.pm_places.specs.declared.span.Span.{Span}
 use Rattle.gim_text.specs.declared.fault.GimpleFault.{GimpleFault}
 use Rattle.gim_text.specs.declared.fault.GimpleKind.TheVariants.{TooLarge}
 use Rattle.gim_text.specs.declared.tree.FunctionText.{FunctionText}
-use Rattle.gim_text.specs.Texts.{text_of, name_parts}
-use Rattle.gim_text.specs.Faults.{fault_at, first_fault}
+use Rattle.gim_text.specs.Texts.{name_parts}
+use Rattle.pm_places.specs.Spans.{text_of}
+use Rattle.gim_text.specs.Faults.{fault_at}
+use Rattle.pm_places.specs.FirstFaults.{first_fault}
 use Rattle.gim_shape.specs.declared.places.Place.{Place}
 use Rattle.gim_shape.specs.declared.places.Place.TheVariants.{Name, Block, Jump}
 use Rattle.gim_shape.specs.Blocks.{is_among, named_at}

@@ -2,13 +2,13 @@
 use Rattle.std.specs.Prelude.{ℕ, Bool, true, false, ◌&&◌, Option, Some, None, List, [], ◌∷◌, map, if◌then◌else◌}
 use Rattle.std.specs.List.{list_all}
 use Rattle.gim_ast.specs.WellFormed.{same_text, all_distinct}
-use Rattle.gim_text.specs.declared.token.Span.{Span}
+use Rattle.pm_places.specs.declared.span.Span.{Span}
 use Rattle.gim_text.specs.declared.fault.GimpleFault.{GimpleFault}
 use Rattle.gim_text.specs.declared.fault.GimpleKind.TheVariants.{BadPhi}
 use Rattle.gim_text.specs.declared.tree.ArgText.{ArgText}
 use Rattle.gim_text.specs.declared.tree.ItemText.{ItemText}
 use Rattle.gim_text.specs.declared.tree.ItemText.TheVariants.{Phi, Stmt}
-use Rattle.gim_text.specs.Texts.{text_of}
+use Rattle.pm_places.specs.Spans.{text_of}
 use Rattle.gim_text.specs.Faults.{fault_at}
 use Rattle.gim_shape.specs.Blocks.{is_among, named_at}
 

@@ -1,13 +1,14 @@
 -- The shape of functions: each block has an end, each jump a block, and each phi stands where it may and fits its block.
 use Rattle.std.specs.Prelude.{ℕ, Bool, true, false, Option, Some, None, List, [], ◌∷◌, ◌++◌, map, if◌then◌else◌}
 use Rattle.std.specs.List.{flat_map}
-use Rattle.gim_text.specs.declared.token.Span.{Span}
+use Rattle.pm_places.specs.declared.span.Span.{Span}
 use Rattle.gim_text.specs.declared.fault.GimpleFault.{GimpleFault}
 use Rattle.gim_text.specs.declared.fault.GimpleKind.TheVariants.{NoReturn, MissingBlock}
 use Rattle.gim_text.specs.declared.tree.BlockText.{BlockText}
 use Rattle.gim_text.specs.declared.tree.EndText.{EndText}
 use Rattle.gim_text.specs.declared.tree.FunctionText.{FunctionText}
-use Rattle.gim_text.specs.Faults.{fault_at, first_fault}
+use Rattle.gim_text.specs.Faults.{fault_at}
+use Rattle.pm_places.specs.FirstFaults.{first_fault}
 use Rattle.gim_shape.specs.Blocks.{is_among, number_of, named_at, jumps_of, numbers_of, predecessors}
 use Rattle.gim_shape.specs.Phis.{item_faults}
 

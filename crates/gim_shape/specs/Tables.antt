@@ -5,7 +5,7 @@ use Rattle.std.specs.Option.{option_map_or}
 use Rattle.std.specs.Str.{bytes_eq}
 use Rattle.std.specs.HashSet.{HashSet, contains_by}
 use Rattle.std.specs.HashMap.{HashMap, get_by}
-use Rattle.gim_text.specs.declared.token.Span.{Span}
+use Rattle.pm_places.specs.declared.span.Span.{Span}
 use Rattle.gim_text.specs.declared.tree.BlockText.{BlockText}
 use Rattle.gim_shape.specs.declared.blocks.Tables.{Tables}
 use Rattle.gim_shape.specs.Blocks.{is_among, numbers_of, predecessors}

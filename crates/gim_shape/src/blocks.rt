@@ -2,13 +2,14 @@
 
 ghost use Rattle.std.specs.Prelude.{◌≡◌, ◌++◌, ℕ, false, List, [], ◌∷◌, OnOk, IfOk, map, if◌then◌else◌};
 ghost use Rattle.gim_ast.specs.WellFormed.{same_text};
-ghost use Rattle.gim_text.specs.Texts.{text_of};
+ghost use Rattle.pm_places.specs.Spans.{text_of};
 ghost use Rattle.gim_shape.specs.Blocks.{jumps_to, numbers_of, predecessors};
 ghost use Rattle.gim_shape.specs.Tables.{HasTexts, places_for, AreTables};
 
 use crate::text::named_at;
-use gim_text::{BlockText, EndText, Span, text};
+use gim_text::{BlockText, EndText};
 use pm_ops::OutOfMemory;
+use pm_places::{Span, text};
 use std::alloc::Global;
 use std::collections::{HashMap, HashSet};
 

@@ -1,7 +1,8 @@
 //! The stage of limits: how many blocks and names a function has, and how large their numbers are.
 
 ghost use Rattle.std.specs.Prelude.{◌≡◌, ◌||◌, ◌==◌, ℕ, suc, List, [], ◌∷◌, IfOk};
-ghost use Rattle.gim_text.specs.Faults.{Judges, first_fault};
+ghost use Rattle.gim_text.specs.Faults.{Judges};
+ghost use Rattle.pm_places.specs.FirstFaults.{first_fault};
 ghost use Rattle.gim_shape.specs.Limits.{span_at, is_above, blocks_among, versions_of, is_name_too_many, is_too_large, place_faults, function_limit_faults, limits_fault};
 ghost use Rattle.gim_shape.specs.declared.places.Place.{Place};
 ghost use Rattle.gim_shape.specs.Seen.{IsSeen, Takes};
@@ -10,8 +11,9 @@ use crate::numbers::is_above;
 use crate::places::{Place, places_of};
 use crate::seen::Seen;
 use crate::text::named_at;
-use gim_text::{FunctionText, GimpleFault, GimpleKind, Span, name_parts, text};
+use gim_text::{FunctionText, GimpleFault, GimpleKind, name_parts};
 use pm_ops::OutOfMemory;
+use pm_places::{Span, text};
 use std::alloc::Global;
 use std::collections::HashSet;
 

@@ -3,7 +3,7 @@
 ghost use Rattle.std.specs.Prelude.{◌≡◌};
 ghost use Rattle.gim_shape.specs.Limits.{is_above};
 
-use gim_text::{is_number_text, number_below};
+use lexing::{is_number_text, number_below};
 
 /// One more than the greatest version and the greatest block number.
 const NUMBERS: u64 = 1_000_000_000;

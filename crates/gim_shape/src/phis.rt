@@ -3,15 +3,17 @@
 ghost use Rattle.std.specs.Prelude.{◌≡◌, ◌&&◌, ℕ, List, true, false, map, IfOk, MatchOption};
 ghost use Rattle.std.specs.List.{list_all};
 ghost use Rattle.gim_ast.specs.WellFormed.{same_text, all_distinct};
-ghost use Rattle.gim_text.specs.Texts.{text_of};
-ghost use Rattle.gim_text.specs.Faults.{Judges, first_fault};
+ghost use Rattle.pm_places.specs.Spans.{text_of};
+ghost use Rattle.gim_text.specs.Faults.{Judges};
+ghost use Rattle.pm_places.specs.FirstFaults.{first_fault};
 ghost use Rattle.gim_shape.specs.Tables.{has_text, HasTexts};
 ghost use Rattle.gim_shape.specs.Phis.{is_each_once, named_by_args, args_fit, phi_fault, item_faults};
 
 use crate::blocks::texts_at;
 use crate::text::named_at;
-use gim_text::{ArgText, GimpleFault, GimpleKind, ItemText, Span, text};
+use gim_text::{ArgText, GimpleFault, GimpleKind, ItemText};
 use pm_ops::OutOfMemory;
+use pm_places::{Span, text};
 use std::alloc::Global;
 use std::collections::HashSet;
 

@@ -6,10 +6,10 @@ ghost use Rattle.gim_shape.specs.Places.{decl_places, operand_places, right_plac
 
 use crate::text::is_anonymous;
 use gim_text::{
-    ArgText, BlockText, DeclText, EndText, FunctionText, ItemText, OperandText, RightForm, Span,
-    text,
+    ArgText, BlockText, DeclText, EndText, FunctionText, ItemText, OperandText, RightForm,
 };
 use pm_ops::OutOfMemory;
+use pm_places::{Span, text};
 use std::alloc::Global;
 
 /// A place at which a name or the number of a block stands.

@@ -3,7 +3,8 @@
 ghost use Rattle.std.specs.Prelude.{◌≡◌, ◌++◌, ℕ, List, false, true, map};
 ghost use Rattle.std.specs.List.{flat_map};
 ghost use Rattle.gim_text.specs.declared.tree.BlockText.{BlockText};
-ghost use Rattle.gim_text.specs.Faults.{Judges, first_fault};
+ghost use Rattle.gim_text.specs.Faults.{Judges};
+ghost use Rattle.pm_places.specs.FirstFaults.{first_fault};
 ghost use Rattle.gim_shape.specs.Blocks.{jumps_of_end};
 ghost use Rattle.gim_shape.specs.Tables.{has_text, places_for, AreTables};
 ghost use Rattle.gim_shape.specs.Shape.{jump_fault, block_faults, function_faults, shape_fault};
@@ -11,7 +12,8 @@ ghost use Rattle.gim_shape.specs.Shape.{jump_fault, block_faults, function_fault
 use crate::blocks::Tables;
 use crate::phis::check_items;
 use crate::text::named_at;
-use gim_text::{BlockText, EndText, FunctionText, GimpleFault, GimpleKind, Span, text};
+use gim_text::{BlockText, EndText, FunctionText, GimpleFault, GimpleKind};
+use pm_places::{Span, text};
 use std::alloc::Global;
 use std::collections::HashSet;
 

@@ -3,10 +3,11 @@
 use crate::{check_limits, check_shape};
 use gim_text::{
     ArgText, BlockText, DeclText, EndText, FunctionText, GimpleFault, GimpleKind, ItemText,
-    LiteralText, LiteralType, OperandText, RightForm, RightText, Span,
+    LiteralText, LiteralType, OperandText, RightForm, RightText,
 };
 use pm_items::Items;
 use pm_ops::{Code, OutOfMemory};
+use pm_places::Span;
 use pm_wide::IntType;
 use std::alloc::Global;
 use std::mem;

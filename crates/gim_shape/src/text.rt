@@ -4,7 +4,8 @@ ghost use Rattle.std.specs.Prelude.{◌≡◌};
 ghost use Rattle.gim_ast.specs.Identifiers.{is_anonymous};
 ghost use Rattle.gim_shape.specs.Blocks.{named_at};
 
-use gim_text::{Span, is_number_text, text};
+use lexing::is_number_text;
+use pm_places::{Span, text};
 
 /// The number of the block that a `__BBn` names.
 pub(crate) fn named_at(source: &[u8], at: Span) -> &[u8]

@@ -9,7 +9,7 @@ use Rattle.grammar.proofs.Chains.{items_of_steps, steps_of_items}
 use Rattle.gim_text.specs.Meanings.{mark, keyword, identifier, block_word}
 use Rattle.gim_text.specs.declared.fault.Part.{Part}
 use Rattle.gim_text.specs.declared.fault.Part.TheVariants.{InBlock}
-use Rattle.gim_text.specs.declared.token.Span.{Span}
+use Rattle.pm_places.specs.declared.span.Span.{Span}
 use Rattle.gim_text.specs.declared.token.Token.{Token}
 use Rattle.gim_text.specs.declared.token.Token.TheVariants as tokens
 use Rattle.gim_text.specs.declared.token.Keyword.TheVariants as keywords

@@ -4,7 +4,7 @@ use Rattle.grammar.specs.Spelling.{Meant, Many}
 use Rattle.pm_ops.specs.declared.code.Code.{Code}
 use Rattle.pm_ops.specs.declared.code.Code.TheVariants.{Negate}
 use Rattle.gim_text.specs.Meanings.{mark, keyword, identifier, block_word, span_of}
-use Rattle.gim_text.specs.declared.token.Span.{Span}
+use Rattle.pm_places.specs.declared.span.Span.{Span}
 use Rattle.gim_text.specs.declared.token.Token.{Token}
 use Rattle.gim_text.specs.declared.token.Token.TheVariants as tokens
 use Rattle.gim_text.specs.declared.token.Keyword.{Keyword}

@@ -5,7 +5,7 @@ use Rattle.pm_wide.specs.Types.{Ty}
 use Rattle.gim_text.specs.Meanings.{span_of}
 use Rattle.gim_text.specs.declared.fault.Part.{Part}
 use Rattle.gim_text.specs.declared.fault.Part.TheVariants.{InBlock}
-use Rattle.gim_text.specs.declared.token.Span.{Span}
+use Rattle.pm_places.specs.declared.span.Span.{Span}
 use Rattle.gim_text.specs.declared.token.Token.{Token}
 use Rattle.gim_text.specs.declared.token.Token.TheVariants as tokens
 use Rattle.gim_text.specs.declared.token.Keyword.TheVariants as keywords

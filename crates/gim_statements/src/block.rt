@@ -9,8 +9,9 @@ ghost use Rattle.gim_statements.specs.BlockReaders as readers;
 use crate::end::read_end;
 use crate::item::read_item;
 use gim_marks::{read_closing, read_keyword, read_mark, read_plain_number};
-use gim_text::{BlockText, ItemText, Keyword, Mark, Part, Span, Token, TokenFault, TokenStop};
+use gim_text::{BlockText, ItemText, Keyword, Mark, Part, Token, TokenFault, TokenStop};
 use pm_items::Items;
+use pm_places::Span;
 use std::alloc::Global;
 
 /// What stands after the number of a block: a note that is dropped, if there is one, and `)`.

@@ -10,9 +10,10 @@ ghost use Rattle.gim_statements.specs.BlockReaders as readers;
 use crate::operand::read_operand;
 use crate::words::comparison_code;
 use gim_marks::{read_block_word, read_closing, read_keyword, read_mark};
-use gim_text::{EndText, Keyword, Mark, Part, Span, Token, TokenFault};
+use gim_text::{EndText, Keyword, Mark, Part, Token, TokenFault};
 use grammar::Fault;
 use pm_ops::Code;
+use pm_places::Span;
 
 /// What compares two operands.
 fn read_comparison(tokens: &[Token]) -> Result<(Code, &[Token]), TokenFault<'_>>

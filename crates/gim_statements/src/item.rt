@@ -7,8 +7,9 @@ ghost use Rattle.gim_statements.specs.ItemReaders as readers;
 use crate::operand::read_operand;
 use crate::right::read_right;
 use gim_marks::{read_block_word, read_mark, read_name};
-use gim_text::{ArgText, ItemText, Keyword, Mark, Part, Span, Token, TokenFault, TokenStop};
+use gim_text::{ArgText, ItemText, Keyword, Mark, Part, Token, TokenFault, TokenStop};
 use pm_items::Items;
+use pm_places::Span;
 use std::alloc::Global;
 
 /// An argument of a phi.

@@ -9,11 +9,10 @@ ghost use Rattle.gim_statements.specs.OperandReaders as readers;
 
 use crate::words::literal_number;
 use gim_marks::{read_keyword, read_mark, read_plain_number};
-use gim_text::{
-    Keyword, LiteralText, LiteralType, Mark, OperandText, Part, Span, Token, TokenFault,
-};
+use gim_text::{Keyword, LiteralText, LiteralType, Mark, OperandText, Part, Token, TokenFault};
 use gim_types::read_type;
 use grammar::Fault;
+use pm_places::Span;
 use pm_wide::IntType;
 
 /// A constant without its first place.

@@ -1,10 +1,11 @@
 use crate::read_block;
 use gim_text::{
     ArgText, BlockText, EndText, ItemText, Keyword, LiteralText, LiteralType, Mark, NumberKind,
-    OperandText, Part, RightForm, RightText, Span, Token, TokenStop, TypeWord,
+    OperandText, Part, RightForm, RightText, Token, TokenStop, TypeWord,
 };
 use grammar::{Stop, whole_in_memory};
 use pm_ops::Code;
+use pm_places::Span;
 use std::alloc::{AllocError, Global};
 use std::test::Fail;
 

@@ -3,8 +3,9 @@
 ghost use Rattle.std.specs.Prelude.{◌≡◌};
 ghost use Rattle.gim_statements.specs.Words as words;
 
-use gim_text::{Keyword, LiteralType, Mark, NumberKind, Span, Token};
+use gim_text::{Keyword, LiteralType, Mark, NumberKind, Token};
 use pm_ops::Code;
+use pm_places::Span;
 
 /// What compares two operands.
 pub(crate) fn comparison_code(token: Token) -> Option<Code>

@@ -6,7 +6,7 @@ use Rattle.grammar.specs.Reading.{◌>>=◌}
 use Rattle.grammar.proofs.Sequence.{Never}
 use Rattle.pm_wide.specs.Types.{Ty}
 use Rattle.gim_text.specs.Meanings.{mark, keyword, identifier}
-use Rattle.gim_text.specs.declared.token.Span.{Span}
+use Rattle.pm_places.specs.declared.span.Span.{Span}
 use Rattle.gim_text.specs.declared.token.Token.{Token}
 use Rattle.gim_text.specs.declared.token.Token.TheVariants as tokens
 use Rattle.gim_text.specs.declared.token.Mark.TheVariants as marks

@@ -7,7 +7,7 @@ use Rattle.grammar.specs.Reading.{◌>>=◌}
 use Rattle.grammar.specs.Exact.{IsExact}
 use Rattle.grammar.proofs.Parts as parts
 use Rattle.grammar.proofs.Sequence.{Never}
-use Rattle.gim_text.specs.declared.token.Span.{Span}
+use Rattle.pm_places.specs.declared.span.Span.{Span}
 use Rattle.gim_text.specs.declared.token.Token.{Token}
 use Rattle.gim_text.specs.declared.token.Token.TheVariants as tokens
 use Rattle.gim_text.specs.declared.token.Mark.TheVariants as marks

@@ -3,7 +3,7 @@ use Rattle.std.proofs.Common.{◌≡◌, List, [], ◌∷◌, ◌++◌, Option, 
 use Rattle.grammar.specs.Spelling.{Spelling, Meant, Then}
 use Rattle.grammar.specs.Reading.{Answer, ◌>>=◌}
 use Rattle.grammar.specs.Exact.{IsApart}
-use Rattle.gim_text.specs.declared.token.Span.{Span}
+use Rattle.pm_places.specs.declared.span.Span.{Span}
 use Rattle.gim_text.specs.declared.token.Token.{Token}
 use Rattle.gim_text.specs.declared.fault.Part.{Part}
 use Rattle.gim_text.specs.declared.fault.Part.TheVariants.{Outside}

@@ -3,7 +3,7 @@ use Rattle.std.specs.Prelude.{◌≡◌, List, [], ◌∷◌, ◌⊎◌}
 use Rattle.grammar.specs.Spelling.{Meant, Many}
 use Rattle.pm_wide.specs.Types.{Ty}
 use Rattle.gim_text.specs.Meanings.{mark, identifier}
-use Rattle.gim_text.specs.declared.token.Span.{Span}
+use Rattle.pm_places.specs.declared.span.Span.{Span}
 use Rattle.gim_text.specs.declared.token.Token.{Token}
 use Rattle.gim_text.specs.declared.token.Token.TheVariants as tokens
 use Rattle.gim_text.specs.declared.token.Mark.TheVariants as marks

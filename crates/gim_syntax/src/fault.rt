@@ -6,9 +6,10 @@ ghost use Rattle.gim_syntax.specs.Grammar.{SpellsFile};
 ghost use Rattle.gim_syntax.specs.SyntaxFaults as faults;
 
 use crate::file::parse;
-use gim_text::{FunctionText, GimpleFault, GimpleKind, Keyword, Mark, Span, Token, identifier};
+use gim_text::{FunctionText, GimpleFault, GimpleKind, Keyword, Mark, Token, identifier};
 use grammar::Stop;
 use pm_items::Items;
+use pm_places::Span;
 use std::alloc::Global;
 
 /// What stands around the end of some tokens.

@@ -11,11 +11,12 @@ use crate::options::read_options;
 use gim_marks::{read_keyword, read_mark, read_name};
 use gim_statements::read_block;
 use gim_text::{
-    BlockText, DeclText, FunctionText, Keyword, Mark, Part, Span, Token, TokenFault, TokenStop,
+    BlockText, DeclText, FunctionText, Keyword, Mark, Part, Token, TokenFault, TokenStop,
 };
 use gim_types::read_type;
 use grammar::Stop;
 use pm_items::Items;
+use pm_places::Span;
 use pm_wide::IntType;
 use std::alloc::Global;
 

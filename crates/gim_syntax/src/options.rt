@@ -6,8 +6,9 @@ ghost use Rattle.grammar.specs.Gives.{Gives};
 ghost use Rattle.gim_syntax.specs.Readers.{ssa_at, options_at};
 
 use gim_marks::read_closing;
-use gim_text::{Mark, Part, Span, Token, TokenFault};
+use gim_text::{Mark, Part, Token, TokenFault};
 use grammar::Fault;
+use pm_places::Span;
 
 /// The first `ssa` outside inner parentheses, and the tokens after it.
 fn read_ssa(tokens: &[Token]) -> Result<(Span, &[Token]), TokenFault<'_>>

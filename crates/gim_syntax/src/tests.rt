@@ -1,5 +1,6 @@
 use crate::read_syntax;
-use gim_text::{GimpleKind, Keyword, Mark, NumberKind, Span, Token, TypeWord};
+use gim_text::{GimpleKind, Keyword, Mark, NumberKind, Token, TypeWord};
+use pm_places::Span;
 use std::alloc::Global;
 use std::test::Fail;
 

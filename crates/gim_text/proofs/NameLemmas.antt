@@ -4,13 +4,10 @@ use Rattle.std.specs.Prelude.{◌==◌, ◌&&◌}
 use Rattle.std.specs.List.{list_all}
 use Rattle.std.proofs.lemmas.Bool.{ne_eqb, and_parts, and_left, and_right, false_from_ne_true, false≢true}
 use Rattle.std.proofs.lemmas.List.{take-append-drop}
-use Rattle.gim_ast.specs.Identifiers.{is_digit, is_number_text}
-use Rattle.gim_ast.proofs.NumberLemmas.{number_text_is_digits}
+use Rattle.lexing.specs.Bytes.{is_digit}
+use Rattle.lexing.specs.Numbers.{is_number_text}
+use Rattle.lexing.proofs.NumberLemmas.{number_text_is_digits, other_among}
 use Rattle.gim_text.specs.Texts.{name_parts}
-
-other_among : (front : List ℕ) (b : ℕ) (ds : List ℕ) → is_digit b ≡ false → list_all is_digit (front ++ b ∷ ds) ≡ false
-other_among [] b ds h = and_left (is_digit b) (list_all is_digit ds) h
-other_among (c ∷ front) b ds h = and_right (is_digit c) (list_all is_digit (front ++ b ∷ ds)) (other_among front b ds h)
 
 no_number : (front : List ℕ) (b : ℕ) (ds : List ℕ) → is_digit b ≡ false → is_number_text (front ++ b ∷ ds) ≡ false
 no_number front b ds h = false_from_ne_true (is_number_text (front ++ b ∷ ds)) (λ t. false≢true (sym (other_among front b ds h) ∙ number_text_is_digits (front ++ b ∷ ds) t))

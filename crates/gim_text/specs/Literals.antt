@@ -1,11 +1,11 @@
 -- The type and the word of a constant, by how it is written.
-use Rattle.std.specs.Prelude.{◌≡◌, ◌≤◌, ◌^◌, ℕ, MatchOption, Bool, Option, Some, None, List, if◌then◌else◌, ℤ, pos, neg_ℤ}
+use Rattle.std.specs.Prelude.{ℕ, Bool, Option, Some, None, List, if◌then◌else◌, ℤ, pos, neg_ℤ}
 use Rattle.pm_wide.specs.Types.{Ty, Word, in_range, word, int_type, unsigned_int_type, long_type, unsigned_long_type}
-use Rattle.gim_ast.specs.Numbers.{number_after}
+use Rattle.lexing.specs.Numbers.{number_after, leading_digits}
 use Rattle.gim_text.specs.declared.tree.LiteralText.{LiteralText}
 use Rattle.gim_text.specs.declared.tree.LiteralType.{LiteralType}
 use Rattle.gim_text.specs.declared.tree.LiteralType.TheVariants.{Plain, Unsigned, Long, UnsignedLong, Written}
-use Rattle.gim_text.specs.Texts.{text_of, leading_digits}
+use Rattle.pm_places.specs.Spans.{text_of}
 
 -- a number with its sign
 abbrev pub signed : Bool → ℕ → ℤ
@@ -29,7 +29,3 @@ word_by ty z = word_in (literal_type ty z) z
 -- the word of a constant; none where its type doesn't hold the number
 unfoldable pub literal_word : List ℕ → LiteralText → Option Word
 literal_word source literal = word_by literal.ty (signed literal.negative (number_after 0 (leading_digits (text_of source literal.number))))
-
--- the size of a number, where it is below 2 to the 128th
-abbrev pub IsSize : Option ℕ → ℕ → Type 0
-IsSize size n = MatchOption size (2 ^ 128 ≤ n) (λ m. m ≡ n)

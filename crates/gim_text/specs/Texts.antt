@@ -1,16 +1,6 @@
--- The bytes of a place in the source, and what names and numbers are by their bytes.
-use Rattle.std.specs.Prelude.{ℕ, ◌-◌, ◌==◌, ◌&&◌, Option, Some, None, List, [], ◌∷◌, take, drop, if◌then◌else◌}
-use Rattle.gim_ast.specs.Identifiers.{is_digit, is_number_text}
-use Rattle.gim_text.specs.declared.token.Span.{Span}
-
--- the bytes of a place
-abbrev pub text_of : List ℕ → Span → List ℕ
-text_of source span = take (span.to - span.from) (drop span.from source)
-
--- the digits at the front of a text
-abbrev pub leading_digits : List ℕ → List ℕ
-leading_digits [] = []
-leading_digits (b ∷ bytes) = if is_digit b then b ∷ leading_digits bytes else []
+-- What names are by their bytes.
+use Rattle.std.specs.Prelude.{ℕ, ◌==◌, ◌&&◌, Option, Some, None, List, [], ◌∷◌, drop, if◌then◌else◌}
+use Rattle.lexing.specs.Numbers.{is_number_text}
 
 -- a byte before a name, or an underscore before a version
 abbrev pub parts_from : ℕ → Option (List ℕ × List ℕ) → List ℕ → Option (List ℕ × List ℕ)

@@ -3,9 +3,10 @@
 ghost use Rattle.std.specs.Prelude.{◌≡◌};
 ghost use Rattle.gim_text.specs.Faults.{memory_fault, fault_at};
 
-use crate::token::{Span, Token};
+use crate::token::Token;
 use grammar::Fault;
 use pm_ops::OutOfMemory;
+use pm_places::Span;
 use std::alloc::{AllocError, AllocFailed};
 use thiserror::Error;
 

@@ -1,39 +1,14 @@
 //! The words of constants.
 
-ghost use Rattle.std.specs.Prelude.{◌≡◌, ◌≤◌, ◌^◌, ◌+◌, ◌*◌, ◌-◌, ℕ, MatchOption};
+ghost use Rattle.std.specs.Prelude.{◌≡◌, ℕ};
 ghost use Rattle.pm_wide.specs.Types.{in_range};
-ghost use Rattle.gim_ast.specs.Numbers.{number_after};
-ghost use Rattle.gim_text.specs.Literals.{IsSize, signed, literal_type, literal_word, word_in};
+ghost use Rattle.lexing.specs.Numbers.{number_after, IsSize};
+ghost use Rattle.gim_text.specs.Literals.{signed, literal_type, literal_word, word_in};
 
-use crate::texts::{leading_digits, text};
 use crate::tree::{LiteralText, LiteralType};
+use lexing::{leading_digits, size};
+use pm_places::text;
 use pm_wide::{IntType, Wide};
-
-/// A number with one digit more; none from 2 to the 128th on.
-fn with_digit(number: u128, digit: u8) -> Option<u128>
-    ensures { MatchOption result (2 ^ 128 ≤ 10 * number + (digit - 48)) (λ n. n ≡ 10 * number + (digit - 48)) }
-{
-    let value = u128::from(digit.saturating_sub(b'0'));
-    match number.checked_mul(10) {
-        Some(tens) => tens.checked_add(value),
-        None => None,
-    }
-}
-
-#[tactic(auto, using(crate::proofs::DigitLemmas::stays_great))]
-/// The number of the digits; none from 2 to the 128th on.
-fn number(digits: &[u8]) -> Option<u128>
-    ensures { IsSize result (number_after 0 digits.now) }
-{
-    let mut number = 0u128;
-    for digit in digits {
-        match with_digit(number, *digit) {
-            Some(longer) => number = longer,
-            None => return None,
-        }
-    }
-    Some(number)
-}
 
 /// Whether the number is a value of the type.
 fn is_in_range(negative: bool, size: Option<u128>, ty: IntType) -> bool
@@ -85,7 +60,7 @@ fn word_in(negative: bool, size: Option<u128>, ty: IntType) -> Option<Wide>
 pub fn constant(negative: bool, digits: &[u8], ty: IntType) -> Option<Wide>
     ensures { result ≡ word_in ty (signed negative (number_after 0 digits.now)) }
 {
-    word_in(negative, number(digits), ty)
+    word_in(negative, size(digits), ty)
 }
 
 /// The word of a constant. None where its type does not hold the number.
@@ -93,7 +68,7 @@ pub fn constant(negative: bool, digits: &[u8], ty: IntType) -> Option<Wide>
 pub fn literal(source: &[u8], literal: &LiteralText) -> Option<Wide>
     ensures { result ≡ literal_word source.now literal.now }
 {
-    let size = number(leading_digits(text(source, literal.number)));
+    let size = size(leading_digits(text(source, literal.number)));
     let ty = type_of(literal.ty, literal.negative, size);
     word_in(literal.negative, size, ty)
 }

@@ -3,7 +3,8 @@
 ghost use Rattle.std.specs.Prelude.{◌≡◌};
 ghost use Rattle.gim_text.specs.Meanings as meanings;
 
-use crate::token::{Keyword, Mark, NumberKind, Span, Token, TypeWord};
+use crate::token::{Keyword, Mark, NumberKind, Token, TypeWord};
+use pm_places::Span;
 
 /// The place of the token, if it is this mark.
 pub fn mark(token: Token, mark: Mark) -> Option<Span>

@@ -1,4 +1,7 @@
-use crate::{GimpleFault, GimpleKind, LiteralText, LiteralType, Span, literal, name_parts, text};
+//! Constants, names and faults of small texts.
+
+use crate::{GimpleFault, GimpleKind, LiteralText, LiteralType, literal, name_parts};
+use pm_places::Span;
 use pm_wide::IntType;
 use std::test::Fail;
 
@@ -113,11 +116,7 @@ fn names_end_in_a_version(rt: HostRuntime) -> Result<(), Fail> {
 }
 
 #[test]
-fn places_past_the_end_have_what_is_there(rt: HostRuntime) -> Result<(), Fail> {
-    let source = "int f".as_bytes();
-    assert!(rt; text(source, Span { from: 4, to: 5 }) == "f".as_bytes());
-    assert!(rt; text(source, Span { from: 4, to: 9 }) == "f".as_bytes());
-    assert!(rt; text(source, Span { from: 7, to: 9 }).is_empty());
+fn a_fault_stands_at_its_token(rt: HostRuntime) -> Result<(), Fail> {
     let fault = GimpleFault::at(GimpleKind::Syntax, Span { from: 4, to: 5 });
     assert!(rt; fault.at == 4 && fault.len == 1 && fault.kind == GimpleKind::Syntax);
     Ok(())

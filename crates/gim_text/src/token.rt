@@ -3,12 +3,7 @@
 ghost use Rattle.std.specs.Prelude.{◌≡◌};
 ghost use Rattle.gim_text.specs.Meanings.{span_of};
 
-/// The bytes of the source from `from` up to `to`.
-#[derive(Clone, Copy, Debug, PartialEq, Eq)]
-pub struct Span {
-    pub from: usize,
-    pub to: usize,
-}
+use pm_places::Span;
 
 /// A word of a type.
 #[derive(Clone, Copy, Debug, PartialEq, Eq)]

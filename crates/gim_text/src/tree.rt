@@ -1,8 +1,8 @@
 //! Trees of what is written, a type for each line of the grammar. Each leaf keeps its place in the source.
 
-use crate::token::Span;
 use pm_items::Items;
 use pm_ops::Code;
+use pm_places::Span;
 use pm_wide::IntType;
 
 /// `TYPE __GIMPLE (ssa) NAME (PARAMS) { DECLS BLOCKS }`

@@ -1,5 +1,6 @@
 use crate::read_type;
-use gim_text::{Part, Span, Token, TypeWord};
+use gim_text::{Part, Token, TypeWord};
+use pm_places::Span;
 use pm_wide::IntType;
 use std::test::Fail;
 

@@ -5,7 +5,7 @@ use Rattle.pm_wide.specs.Types.{Word, value}
 use Rattle.gim_ast.specs.declared.function.Function.{Function}
 use Rattle.gim_ast.specs.declared.function.Decl.{Decl}
 use Rattle.gim_ast.specs.Functions.{first_where}
-use Rattle.gim_ast.specs.Numbers.{number_after}
+use Rattle.lexing.specs.Numbers.{number_after}
 use Rattle.gim_printer.specs.Printing.{text, assigned_text}
 use Rattle.gim_ast.specs.Runs.{Outcome, Returned, Undefined, Running, run_of}
 use Rattle.gim_text.specs.Literals.{signed, word_in}

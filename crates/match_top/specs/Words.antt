@@ -1,7 +1,6 @@
 -- The words of a command line, and the command that they spell.
 use Rattle.std.specs.Prelude.{ℕ, ◌==◌, nat_le, Bool, true, false, not, ◌&&◌, if◌then◌else◌, Option, Some, None, option_map, List, [], ◌∷◌, length, codes, bytes_eq}
-use Rattle.gim_ast.specs.Identifiers.{is_number_text}
-use Rattle.gim_ast.specs.Numbers.{number_below}
+use Rattle.lexing.specs.Numbers.{is_number_text, number_below}
 
 -- what the program is asked to do, with the names of the files that it reads
 pub data Command : Type 0 where

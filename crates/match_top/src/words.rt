@@ -3,7 +3,7 @@ ghost use Rattle.std.specs.Prelude.{◌≡◌, ◌++◌, List, ℕ, IfOk, bytes_
 ghost use Rattle.match_top.specs.Words.{command_of, simplify_of, check_of, run_of, values_of, fuel_of, is_positional, is_size, is_value};
 ghost use Rattle.match_top.specs.Settings.{spelled, tail_of};
 
-use gim_text::{is_number_text, number_below};
+use lexing::{is_number_text, number_below};
 use pm_ops::OutOfMemory;
 use std::alloc::Global;
 

@@ -1,1 +1,4 @@
+pub mod FirstFaults
+pub mod Judging
 pub mod Places
+pub mod Spans

@@ -1,9 +1,15 @@
-//! Places in a text for people: lines and columns, as the faults of pattern files and GIMPLE files
-//! name them.
+//! Places in the text of a file: spans with their bytes, and lines and columns for people.
+//!
+//! `specs/` has what the stages of every file language have in common: which fault is the first one, and what a stage
+//! answers that looks for it.
 #![tactic(auto)]
+
+mod span;
 
 ghost use Rattle.std.specs.Prelude.{◌≡◌, ◌^◌, ◌<◌, ◌≤◌, length};
 ghost use Rattle.pm_places.specs.Places.{line_of, column_of};
+
+pub use span::{Span, place, text};
 
 /// The line and the column of byte number `at` of a text, both counted from 1. A line ends with a line
 /// feed, and columns count bytes. The place right behind the last byte has them too. Takes no memory.

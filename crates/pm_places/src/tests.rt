@@ -1,3 +1,5 @@
+//! Places and spans of small texts.
+
 use super::*;
 use std::test::Fail;
 
@@ -22,5 +24,15 @@ fn places(rt: HostRuntime) -> Result<(), Fail> {
         assert_eq!(rt; line_column(text, at), (line, column), "at {at}");
     }
     assert_eq!(rt; line_column(b"", 0), (1, 1));
+    Ok(())
+}
+
+#[test]
+fn spans_past_the_end_have_what_is_there(rt: HostRuntime) -> Result<(), Fail> {
+    let source = "int f".as_bytes();
+    assert!(rt; text(source, place(4, 1)) == "f".as_bytes());
+    assert!(rt; text(source, Span { from: 4, to: 9 }) == "f".as_bytes());
+    assert!(rt; text(source, Span { from: 7, to: 9 }).is_empty());
+    assert!(rt; text(source, Span { from: 3, to: 2 }).is_empty());
     Ok(())
 }

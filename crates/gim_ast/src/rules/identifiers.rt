@@ -1,12 +1,15 @@
 //! Identifiers, and the texts of names.
 
 ghost use Rattle.std.specs.Prelude.{◌≡◌, [], not};
-ghost use Rattle.std.specs.List.{list_all, list_any};
+ghost use Rattle.std.specs.List.{list_any};
 ghost use Rattle.std.specs.Str.{bytes_eq};
-ghost use Rattle.gim_ast.specs.Identifiers.{is_digit, is_letter, is_word_byte, is_number_text, is_word_text, is_block_word, is_reserved, is_identifier, is_anonymous, anonymous};
+ghost use Rattle.gim_ast.specs.Identifiers.{is_block_word, is_reserved, is_identifier, is_anonymous, anonymous};
+ghost use Rattle.lexing.specs.Numbers.{is_number_text};
+ghost use Rattle.lexing.specs.Words.{is_word_text};
 ghost use Rattle.gim_ast.specs.WellFormed.{same_text};
 
 use itoa::Buffer;
+use lexing::{is_number_text, is_word_text};
 
 /// The words of types and of the grammar.
 const RESERVED: [&str; 22] = [
@@ -15,64 +18,8 @@ const RESERVED: [&str; 22] = [
     "_Literal", "D",
 ];
 
-/// Whether the byte is a digit.
-fn is_digit(byte: u8) -> bool
-    ensures { result ≡ is_digit byte }
-{
-    byte >= b'0' && byte <= b'9'
-}
-
-/// Whether the byte is a letter or an underscore.
-fn is_letter(byte: u8) -> bool
-    ensures { result ≡ is_letter byte }
-{
-    byte >= b'A' && byte <= b'Z' || byte >= b'a' && byte <= b'z' || byte == b'_'
-}
-
-/// Whether the byte is a letter, a digit or an underscore.
-fn is_word_byte(byte: u8) -> bool
-    ensures { result ≡ is_word_byte byte }
-{
-    is_letter(byte) || is_digit(byte)
-}
-
-/// Whether each byte is a digit.
-fn are_digits(bytes: &[u8]) -> bool
-    ensures { result ≡ list_all is_digit bytes.now }
-{
-    bytes.iter().all(|byte| is_digit(*byte))
-}
-
-/// Whether the bytes are digits without a leading zero, one at least.
-fn is_number_text(bytes: &[u8]) -> bool
-    ensures { result ≡ is_number_text bytes.now }
-{
-    match bytes {
-        [] => false,
-        [byte] => is_digit(*byte),
-        [first, rest @ ..] => is_digit(*first) && *first != b'0' && are_digits(rest),
-    }
-}
-
-/// Whether each byte is a letter, a digit or an underscore.
-fn are_word_bytes(bytes: &[u8]) -> bool
-    ensures { result ≡ list_all is_word_byte bytes.now }
-{
-    bytes.iter().all(|byte| is_word_byte(*byte))
-}
-
-/// Whether the bytes are letters, digits and underscores, and begin with no digit.
-fn is_word_text(bytes: &[u8]) -> bool
-    ensures { result ≡ is_word_text bytes.now }
-{
-    match bytes {
-        [] => false,
-        [first, rest @ ..] => is_letter(*first) && are_word_bytes(rest),
-    }
-}
-
 /// Whether the bytes are `__BB` and a number.
-fn is_block_word(bytes: &[u8]) -> bool
+pub fn is_block_word(bytes: &[u8]) -> bool
     ensures { result ≡ is_block_word bytes.now }
 {
     match bytes {
@@ -105,7 +52,7 @@ pub(crate) fn is_identifier(bytes: &[u8]) -> bool
 }
 
 /// Whether the bytes are a name without a base.
-pub(crate) fn is_anonymous(bytes: &[u8]) -> bool
+pub fn is_anonymous(bytes: &[u8]) -> bool
     ensures { result ≡ is_anonymous bytes.now }
 {
     match bytes {

@@ -1,7 +1,8 @@
 use Rattle.std.proofs.Common.{arith, ap}
-use Rattle.gim_text.specs.declared.token.Span.{Span}
-use Rattle.gim_lexer.proofs.Cutting.{whole, same_tokens, no_tokens}
-use Rattle.gim_lexer.proofs.Steps.{begun, step_separator, step_token, step_fault, stepped, is_cause}
+use Rattle.pm_places.specs.declared.span.Span.{Span}
+use Rattle.lexing.proofs.Cutting.{begun, whole}
+use Rattle.gim_lexer.proofs.Cutting.{same_tokens, no_tokens}
+use Rattle.gim_lexer.proofs.Steps.{step_separator, step_token, step_fault, stepped, is_cause}
 use Rattle.gim_lexer.proofs.lex.Goals as goal
 
 pub loop-at-init : goal.loop-at-init

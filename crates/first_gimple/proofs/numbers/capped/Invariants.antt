@@ -1,5 +1,5 @@
 use Rattle.std.proofs.Common.{◌≡◌, ◌≤◌, drop}
-use Rattle.gim_ast.specs.Numbers.{capped}
+use Rattle.lexing.specs.Numbers.{capped}
 use Rattle.first_gimple.proofs.numbers.capped.Given as goal
 
 abbrev pub invariant-loop-digit : goal.invariant-loop-digit

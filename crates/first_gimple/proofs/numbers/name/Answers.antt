@@ -1,5 +1,5 @@
 use Rattle.std.proofs.Common.{◌∙◌, sym, ap}
-use Rattle.gim_ast.specs.Numbers.{number_below}
+use Rattle.lexing.specs.Numbers.{number_below}
 use Rattle.first_gimple.specs.declared.numbers.TheConstants.{VERSIONS}
 use Rattle.first_gimple.proofs.Names.{no_name_whole, no_name_other, no_name_number, name_found}
 use Rattle.first_gimple.proofs.numbers.name.Goals as goal

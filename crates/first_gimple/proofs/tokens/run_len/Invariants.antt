@@ -1,5 +1,5 @@
 use Rattle.std.proofs.Common.{◌≡◌, ℕ, ◌<◌, true, slice_index}
-use Rattle.gim_ast.specs.Identifiers.{is_word_byte}
+use Rattle.lexing.specs.Bytes.{is_word_byte}
 use Rattle.first_gimple.proofs.tokens.run_len.Given as goal
 
 abbrev pub invariant-loop-at : goal.invariant-loop-at

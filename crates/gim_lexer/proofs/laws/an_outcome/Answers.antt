@@ -1,4 +1,4 @@
-use Rattle.gim_lexer.proofs.Outcome.{outcome}
+use Rattle.gim_lexer.proofs.Cutting.{outcome}
 use Rattle.gim_lexer.proofs.laws.an_outcome.Goals as goal
 
 pub returns : goal.returns

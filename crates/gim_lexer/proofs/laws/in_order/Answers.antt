@@ -1,4 +1,4 @@
-use Rattle.gim_lexer.proofs.Placing.{tokens_in_order}
+use Rattle.gim_lexer.proofs.Cutting.{tokens_in_order}
 use Rattle.gim_lexer.proofs.laws.in_order.Goals as goal
 
 pub returns : goal.returns

@@ -1,4 +1,4 @@
-use Rattle.gim_lexer.proofs.Cutting.{one_fault}
+use Rattle.lexing.proofs.Cutting.{one_fault}
 use Rattle.gim_lexer.proofs.laws.one_fault.Goals as goal
 
 pub returns : goal.returns

@@ -1,5 +1,5 @@
 use Rattle.std.proofs.Common.{◌≡◌, drop, map}
-use Rattle.gim_text.specs.Faults.{first_fault}
+use Rattle.pm_places.specs.FirstFaults.{first_fault}
 use Rattle.gim_making.specs.Types.{place_of_arg}
 use Rattle.gim_making.proofs.types.check_args.Given as goal
 

@@ -1,5 +1,5 @@
 use Rattle.gim_names.specs.NamesFault.{mention_fault}
-use Rattle.gim_names.proofs.Places.{first_place}
+use Rattle.pm_places.proofs.FirstPlaces.{first_place}
 use Rattle.gim_names.proofs.laws.first_mention.Goals as goal
 
 pub returns : goal.returns

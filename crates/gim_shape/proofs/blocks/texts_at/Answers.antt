@@ -1,7 +1,7 @@
 use Rattle.std.proofs.Common.{take, map}
 use Rattle.std.specs.HashSet.{contains_by}
 use Rattle.std.specs.Str.{bytes_eq}
-use Rattle.gim_text.specs.Texts.{text_of}
+use Rattle.pm_places.specs.Spans.{text_of}
 use Rattle.gim_shape.proofs.ListLemmas.{map_step_at}
 use Rattle.gim_shape.proofs.TableLemmas.{among_more}
 use Rattle.gim_shape.proofs.blocks.texts_at.Goals as goal

@@ -1,5 +1,5 @@
 use Rattle.std.proofs.Common.{map, take}
-use Rattle.gim_text.specs.Texts.{text_of}
+use Rattle.pm_places.specs.Spans.{text_of}
 use Rattle.gim_shape.specs.Tables.{HasTexts}
 use Rattle.gim_shape.proofs.blocks.texts_at.Given as goal
 

@@ -1,5 +1,5 @@
 use Rattle.std.proofs.Common.{◌≡◌, [], reverse, take, drop}
-use Rattle.gim_text.specs.Faults.{first_fault}
+use Rattle.pm_places.specs.FirstFaults.{first_fault}
 use Rattle.gim_shape.specs.Limits.{blocks_among, versions_of, place_faults}
 use Rattle.gim_shape.specs.Seen.{IsSeen}
 use Rattle.gim_shape.proofs.limits.check_places.Given as goal

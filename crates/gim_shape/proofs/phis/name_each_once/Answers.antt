@@ -1,5 +1,5 @@
 use Rattle.std.proofs.Common.{◌∙◌, map}
-use Rattle.gim_text.specs.Texts.{text_of}
+use Rattle.pm_places.specs.Spans.{text_of}
 use Rattle.gim_shape.specs.Tables.{has_text}
 use Rattle.gim_shape.specs.Phis.{named_by_args}
 use Rattle.gim_shape.proofs.DistinctLemmas.{each_once_known}

@@ -1,6 +1,6 @@
 use Rattle.std.proofs.Common.{◌≡◌, drop}
 use Rattle.std.specs.List.{flat_map}
-use Rattle.gim_text.specs.Faults.{first_fault}
+use Rattle.pm_places.specs.FirstFaults.{first_fault}
 use Rattle.gim_shape.specs.Shape.{function_faults, shape_fault}
 use Rattle.gim_shape.proofs.shape.check_shape.Given as goal
 

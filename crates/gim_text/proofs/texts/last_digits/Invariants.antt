@@ -1,6 +1,6 @@
 use Rattle.std.proofs.Common.{◌≡◌, ◌≤◌, true, length, drop}
 use Rattle.std.specs.List.{list_all}
-use Rattle.gim_ast.specs.Identifiers.{is_digit}
+use Rattle.lexing.specs.Bytes.{is_digit}
 use Rattle.gim_text.proofs.texts.last_digits.Given as goal
 
 abbrev pub invariant-loop-at : goal.invariant-loop-at

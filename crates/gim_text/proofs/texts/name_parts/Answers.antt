@@ -1,5 +1,5 @@
 use Rattle.std.proofs.Common.{◌∙◌, sym, ap}
-use Rattle.gim_ast.specs.Identifiers.{is_number_text}
+use Rattle.lexing.specs.Numbers.{is_number_text}
 use Rattle.gim_text.proofs.NameLemmas.{no_name_whole, no_name_other, no_name_number, name_found}
 use Rattle.gim_text.proofs.texts.name_parts.Goals as goal
 use Rattle.gim_text.proofs.texts.name_parts.Goals.{then-at-eq0-via-then-at-eq0, then-at-eq0-via-else-at-eq0+then-text-at-ne95}

@@ -1,0 +1,6 @@
+pub mod Bytes
+pub mod Cuts
+pub mod Numbers
+pub mod Separators
+pub mod Tables
+pub mod Words

@@ -1,0 +1,43 @@
+//! Lexing of small texts.
+
+use super::*;
+use std::test::Fail;
+
+#[test]
+fn numbers(rt: HostRuntime) {
+    assert_eq!(rt; number_below(300, b"299"), Some(299));
+    assert_eq!(rt; number_below(300, b"300"), None);
+    assert_eq!(rt; number_below(300, b"029"), None);
+    assert_eq!(rt; leading_digits(b"12u"), b"12".as_slice());
+    assert_eq!(rt; size(b"12"), Some(12));
+    let greatest = b"340282366920938463463374607431768211455";
+    assert_eq!(rt; size(greatest), Some(u128::MAX));
+    assert_eq!(rt; size(b"340282366920938463463374607431768211456"), None);
+}
+
+#[test]
+fn comments(rt: HostRuntime) {
+    assert_eq!(rt; comment_len(b"/***/ */"), Some(5));
+    assert_eq!(rt; comment_len(b"/*/"), None);
+    assert_eq!(rt; comment_len(b"a/**/"), None);
+    assert!(rt; begins_with_space(b"\x0b") && !begins_with_space(b""));
+}
+
+#[test]
+fn runs(rt: HostRuntime) {
+    assert_eq!(rt; word_len(b"a_1-"), 3);
+    assert_eq!(rt; digits_len(b"12a"), 2);
+    assert_eq!(rt; suffix_len(b"uLx"), 2);
+    assert_eq!(rt; line_len(b"ab\nc"), 2);
+    assert_eq!(rt; inner_len(b"ab\"c"), 2);
+    assert!(rt; is_word_text(b"_1") && !is_word_text(b"1_") && !is_word_text(b""));
+}
+
+#[test]
+fn tables(rt: HostRuntime) -> Result<(), Fail> {
+    let table: [Row<u8>; 2] = [("ul", 1), ("l", 2)];
+    assert_eq!(rt; beside(&table, b"l"), Some(2));
+    assert_eq!(rt; beside(&table, b"L"), None);
+    assert_eq!(rt; beside_in_any_case(&table, b"uL"), Some(1));
+    Ok(())
+}
