@@ -1,0 +1,6 @@
+pub mod Balance
+pub mod Crossing
+pub mod NameLemmas
+pub mod SpotLemmas
+pub mod TableTheorem
+pub mod WordLemmas

@@ -1,0 +1,4 @@
+pub mod Spots
+pub mod TableClass
+pub mod TableEqual
+pub mod WrappedWords
