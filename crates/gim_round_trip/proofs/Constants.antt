@@ -37,7 +37,7 @@ use Rattle.gim_text.specs.Texts.{text_of, leading_digits}
 use Rattle.grammar.specs.Spelling.{Meant}
 use Rattle.gim_lexer.specs.Numbers.{is_suffix_letter, suffix_kind}
 use Rattle.gim_lexer.specs.Tokens.{place}
-use Rattle.gim_marks.specs.Readers.{plain_number}
+use Rattle.gim_words.specs.Tokens.{plain_number}
 use Rattle.gim_statements.specs.Grammar.{◌▸◌, AKeyword, BeginsAt, Signed, SpellsConstant, SpellsOperand, MayStandUnder}
 use Rattle.gim_statements.specs.Words.{literal_number}
 use Rattle.gim_round_trip.proofs.Prints.{Prints, word_end, joined, seen, blanks_before}

@@ -21,7 +21,7 @@ use Rattle.gim_text.specs.Texts.{text_of}
 use Rattle.grammar.specs.Spelling.{Meant}
 use Rattle.gim_lexer.specs.Tokens.{place}
 use Rattle.gim_lexer.specs.Words.{word_token}
-use Rattle.gim_marks.specs.Readers.{plain_number}
+use Rattle.gim_words.specs.Tokens.{plain_number}
 use Rattle.gim_statements.specs.Grammar.{AMark, AKeyword}
 use Rattle.gim_statements.specs.Words.{comparison_code, infix_code}
 use Rattle.gim_syntax.specs.Grammar.{IsSsa}
