@@ -8,8 +8,6 @@ use Rattle.grammar.proofs.Lists.{Between, Beyond, cuts}
 use Rattle.grammar.proofs.WholeInput.{whole}
 use Rattle.gim_ast.specs.declared.function.Function.{Function}
 use Rattle.gim_text.specs.declared.fault.GimpleFault.{GimpleFault}
-use Rattle.gim_text.specs.declared.fault.Part.{Part}
-use Rattle.gim_text.specs.declared.fault.Part.TheVariants.{Outside}
 use Rattle.gim_text.specs.declared.token.Token.{Token}
 use Rattle.gim_text.specs.declared.tree.FunctionText.{FunctionText}
 use Rattle.gim_lexer.specs.Faults.{lex_fault}
@@ -25,14 +23,14 @@ use Rattle.gim_reader.proofs.OneFile.{stand_once}
 
 -- ---- tokens
 
-reading : (tokens : List Token) → IsReading SpellsFile tokens (whole_of Outside (file_at tokens))
-reading tokens = whole SpellsFile AnyToken Outside tokens (file_at tokens) (file_reads.exact tokens)
+reading : (tokens : List Token) → IsReading SpellsFile tokens (whole_of tt (file_at tokens))
+reading tokens = whole SpellsFile AnyToken tt tokens (file_at tokens) (file_reads.exact tokens)
 
-read_once : (r : Result (List FunctionText) (Part × List Token)) (xs ys : List FunctionText) → r ≡ Ok xs → r ≡ Ok ys → xs ≡ ys
+read_once : (r : Result (List FunctionText) (Unit {0} × List Token)) (xs ys : List FunctionText) → r ≡ Ok xs → r ≡ Ok ys → xs ≡ ys
 read_once r xs ys p q = cc
 
 one_list_of_trees : (tokens : List Token) (xs ys : List FunctionText) → SpellsFile xs tokens → SpellsFile ys tokens → xs ≡ ys
-one_list_of_trees tokens xs ys p q = read_once (whole_of Outside (file_at tokens)) xs ys ((reading tokens).only xs p) ((reading tokens).only ys q)
+one_list_of_trees tokens xs ys p q = read_once (whole_of tt (file_at tokens)) xs ys ((reading tokens).only xs p) ((reading tokens).only ys q)
 
 spelled_has_no_fault : (tokens rest : List Token) (xs : List FunctionText) → SpellsFile xs tokens → IsFirstFault SpellsFile tokens rest → ⊥
 spelled_has_no_fault tokens [] xs spelled fault = fault.ends refl xs spelled

@@ -35,8 +35,8 @@ use Rattle.gim_text.specs.Texts.{block_digits}
 use Rattle.pm_places.specs.Spans.{text_of}
 use Rattle.gim_lexer.specs.Meant.{MeansItsText, AllMeanTheirTexts}
 use Rattle.gim_lexer.specs.Spelled.{InOrder}
-use Rattle.gim_marks.specs.Readers.{plain_number}
-use Rattle.gim_types.specs.Grammar.{SpellsType, forms}
+use Rattle.gim_words.specs.Tokens.{plain_number}
+use Rattle.gim_words.specs.Types.{SpellsType, forms}
 use Rattle.gim_statements.specs.Grammar.{◌▸◌, BeginsAt, SpellsConstant, SpellsOperand, SpellsForm, SpellsRight, SpellsArg, SpellsFurtherArg, SpellsArgs, SpellsItem, SpellsJump, SpellsEnd, SpellsEndIfAny, SpellsBlock}
 use Rattle.gim_syntax.specs.Grammar.{SpellsTyped, SpellsDecl, SpellsFurther, SpellsParams, SpellsHead, SpellsParamsBetween, SpellsBody, SpellsFunction, SpellsFile}
 use Rattle.gim_making.specs.Written.{texts_of_form, text_of_arg, texts_of_item, texts_of_end, texts_of_block, targets_of_end, target_of_arg, targets_of_item, targets_of_block, ident_is_written, type_is_written, operand_is_written, number_is_written, target_is_written, IsWritten}

@@ -37,7 +37,7 @@ use Rattle.pm_places.specs.Spans.{text_of, place}
 use Rattle.grammar.specs.Spelling.{Meant}
 use Rattle.gim_lexer.specs.Numbers.{suffix_kind}
 use Rattle.lexing.specs.Bytes.{is_suffix_letter}
-use Rattle.gim_marks.specs.Readers.{plain_number}
+use Rattle.gim_words.specs.Tokens.{plain_number}
 use Rattle.gim_statements.specs.Grammar.{◌▸◌, AKeyword, BeginsAt, Signed, SpellsConstant, SpellsOperand, MayStandUnder}
 use Rattle.gim_statements.specs.Words.{literal_number}
 use Rattle.gim_round_trip.proofs.Prints.{Prints, word_end, joined, seen, blanks_before}

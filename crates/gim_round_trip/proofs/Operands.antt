@@ -23,7 +23,7 @@ use Rattle.gim_text.specs.declared.tree.DeclText.{DeclText}
 use Rattle.gim_text.specs.Meanings.{identifier}
 use Rattle.pm_places.specs.Spans.{text_of}
 use Rattle.grammar.specs.Spelling.{Meant}
-use Rattle.gim_types.specs.Grammar.{SpellsType}
+use Rattle.gim_words.specs.Types.{SpellsType}
 use Rattle.gim_statements.specs.Grammar.{SpellsOperand, MayStandUnder}
 use Rattle.gim_syntax.specs.Grammar.{SpellsTyped}
 use Rattle.gim_round_trip.specs.ReadBack.{IsWithinLimits}

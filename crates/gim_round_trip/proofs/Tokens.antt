@@ -22,7 +22,7 @@ use Rattle.gim_text.specs.Meanings.{mark, keyword, identifier, block_word}
 use Rattle.pm_places.specs.Spans.{text_of, place}
 use Rattle.grammar.specs.Spelling.{Meant}
 use Rattle.gim_lexer.specs.Words.{word_token}
-use Rattle.gim_marks.specs.Readers.{plain_number}
+use Rattle.gim_words.specs.Tokens.{plain_number}
 use Rattle.gim_statements.specs.Grammar.{AMark, AKeyword}
 use Rattle.gim_statements.specs.Words.{comparison_code, infix_code}
 use Rattle.gim_syntax.specs.Grammar.{IsSsa}

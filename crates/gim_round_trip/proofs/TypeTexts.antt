@@ -15,7 +15,7 @@ use Rattle.gim_text.specs.declared.token.TypeWord.TheVariants as words
 use Rattle.gim_text.specs.Meanings.{type_word}
 use Rattle.pm_places.specs.Spans.{place}
 use Rattle.gim_lexer.specs.Words.{word_token}
-use Rattle.gim_types.specs.Grammar.{SpellsType, forms, some_word}
+use Rattle.gim_words.specs.Types.{SpellsType, forms, some_word}
 use Rattle.gim_statements.specs.Grammar.{◌▸◌}
 use Rattle.gim_round_trip.proofs.Prints.{Prints, any_end, word_end, joined, seen, blanks_after}
 use Rattle.gim_round_trip.proofs.Words.{word_prints}

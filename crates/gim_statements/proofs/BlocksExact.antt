@@ -7,8 +7,6 @@ use Rattle.grammar.proofs.Parts.{apart_within}
 use Rattle.grammar.proofs.Sequence.{Never}
 use Rattle.grammar.proofs.Chains.{items_of_steps, steps_of_items}
 use Rattle.gim_text.specs.Meanings.{mark, keyword}
-use Rattle.gim_text.specs.declared.fault.Part.{Part}
-use Rattle.gim_text.specs.declared.fault.Part.TheVariants.{InBlock}
 use Rattle.pm_places.specs.declared.span.Span.{Span}
 use Rattle.gim_text.specs.declared.token.Token.{Token}
 use Rattle.gim_text.specs.declared.token.Token.TheVariants as tokens
@@ -17,13 +15,14 @@ use Rattle.gim_text.specs.declared.token.Mark.TheVariants as marks
 use Rattle.gim_text.specs.declared.tree.ItemText.{ItemText}
 use Rattle.gim_text.specs.declared.tree.EndText.{EndText}
 use Rattle.gim_text.specs.declared.tree.BlockText.{BlockText}
-use Rattle.gim_marks.specs.Grammar.{Closing}
-use Rattle.gim_marks.specs.Readers.{plain_number, mark_at, closing_at}
-use Rattle.gim_marks.proofs.Parts.{Reads, seen_by, after_token, after_free, in_sequence, in_words}
-use Rattle.gim_marks.proofs.Starts.{Begun, meant_begun, front_begun, Either, left_of, right_of}
-use Rattle.gim_marks.proofs.Loops as loops
-use Rattle.gim_marks.proofs.MarksExact.{some_mark, some_keyword, some_plain_number, mark_reads}
-use Rattle.gim_marks.proofs.BalancedExact.{closing_reads}
+use Rattle.gim_words.specs.Parentheses.{Closing}
+use Rattle.gim_words.specs.Tokens.{plain_number}
+use Rattle.gim_words.specs.TokenReaders.{mark_at, closing_at}
+use Rattle.grammar.proofs.EveryInput.{Reads, seen_by, after_token, after_free, in_sequence, in_words}
+use Rattle.grammar.proofs.Starts.{Begun, meant_begun, front_begun, Either, left_of, right_of}
+use Rattle.grammar.proofs.Items as loops
+use Rattle.gim_words.proofs.TokensExact.{some_mark, some_keyword, some_plain_number, mark_reads}
+use Rattle.gim_words.proofs.BalancedExact.{closing_reads}
 use Rattle.gim_statements.specs.Grammar.{SpellsItem, SpellsNote, SpellsEndIfAny, SpellsBlock, GoesOnBlock}
 use Rattle.gim_statements.specs.ItemReaders.{item_at}
 use Rattle.gim_statements.specs.BlockReaders.{note_at, further_item_at, items_at, end_at, block_at}
@@ -39,9 +38,9 @@ CommaForm = Then (Meant (mark marks.Comma)) (λ m. Closing)
 Note : Spelling Token Span
 Note = Either (Meant (mark marks.Close)) CommaForm
 
-comma_reads : Reads CommaForm Never (λ input. mark_at marks.Comma InBlock input >>= λ m. closing_at InBlock m.1)
+comma_reads : Reads CommaForm Never (λ input. mark_at marks.Comma input >>= λ m. closing_at m.1)
 unfolding CommaForm
-comma_reads = after_token (mark marks.Comma) InBlock (some_mark marks.Comma) (λ m. Closing) Never (λ m. closing_at InBlock m.1) (λ m. closing_reads InBlock)
+comma_reads = after_token (mark marks.Comma) tt (some_mark marks.Comma) (λ m. Closing) Never (λ m. closing_at m.1) (λ m. closing_reads)
 
 comma_begun : (x : Span) (w : List Token) → CommaForm x w → Begun IsComma w
 unfolding CommaForm
@@ -58,10 +57,10 @@ close_is t x e = absurd (cc)
 note_exact : (input : List Token) → IsExact Note Never input (note_at input)
 unfolding Note
 note_exact (tokens.Mark marks.Comma at ∷ rest) =
-    right_of (Meant (mark marks.Close)) CommaForm Never IsClose (meant_begun (mark marks.Close) IsClose close_is) comma_reads.some (tokens.Mark marks.Comma at ∷ rest) (closing_at InBlock rest) (λ h. h)
+    right_of (Meant (mark marks.Close)) CommaForm Never IsClose (meant_begun (mark marks.Close) IsClose close_is) comma_reads.some (tokens.Mark marks.Comma at ∷ rest) (closing_at rest) (λ h. h)
     (comma_reads.exact (tokens.Mark marks.Comma at ∷ rest))
 note_exact input =
-    left_of (Meant (mark marks.Close)) CommaForm Never IsComma comma_begun (some_mark marks.Close) input (mark_at marks.Close InBlock input) (λ h. h) ((mark_reads marks.Close InBlock Never).exact input)
+    left_of (Meant (mark marks.Close)) CommaForm Never IsComma comma_begun (some_mark marks.Close) input (mark_at marks.Close input) (λ h. h) ((mark_reads marks.Close Never).exact input)
 
 note_reads : Reads Note Never note_at
 unfolding Note
@@ -90,12 +89,12 @@ name_kept t h = λ impossible. impossible
 never_on : (t : Token) → Never t → IsName t
 never_on t h = absurd h
 
-item_goes_on : (s : List ItemText) (t : Token) (rest : List Token) (answer : Answer Token Part (List ItemText)) → further_item_at s (t ∷ rest) ≡ Some answer → IsName t
+item_goes_on : (s : List ItemText) (t : Token) (rest : List Token) (answer : Answer Token (Unit {0}) (List ItemText)) → further_item_at s (t ∷ rest) ≡ Some answer → IsName t
 item_goes_on s (tokens.Identifier at) rest answer e = tt
 item_goes_on s (tokens.Ssa at) rest answer e = tt
 item_goes_on s t rest answer e = absurd (none_is_some answer e)
 
-item_more : (s : List ItemText) (t : Token) (rest : List Token) (answer : Answer Token Part (List ItemText)) → further_item_at s (t ∷ rest) ≡ Some answer
+item_more : (s : List ItemText) (t : Token) (rest : List Token) (answer : Answer Token (Unit {0}) (List ItemText)) → further_item_at s (t ∷ rest) ≡ Some answer
     → (item_at (t ∷ rest) >>= λ x. Ok (s ++ x.0 ∷ [], x.1)) ≡ answer
 item_more s (tokens.Identifier at) rest answer e = cc
 item_more s (tokens.Ssa at) rest answer e = cc
@@ -140,7 +139,7 @@ end_apart items end (t ∷ v) z s far = kept t (end_begun end t v s)
     kept (tokens.Keyword word at) h = λ impossible. impossible
     kept t h = absurd h
 
-body_at : Span → Span → List Token → Answer Token Part BlockText
+body_at : Span → Span → List Token → Answer Token (Unit {0}) BlockText
 body_at head number input = items_at input >>= λ items. end_at items.1 >>= λ end. Ok (record { head = head; number = number; items = items.0; end = end.0 }, end.1)
 
 body_reads : (head number : Span) → Reads (AfterColon head number) GoesOnBlock (body_at head number)
@@ -153,11 +152,11 @@ body_reads head number =
 block_form_reads : Reads BlockForm GoesOnBlock block_at
 unfolding BlockForm AfterNumber AfterColon block body_at
 block_form_reads =
-    after_token (keyword keywords.Block) InBlock (some_keyword keywords.Block) (λ head. Then (Meant (mark marks.Open)) (λ o. Then (Meant plain_number) (AfterNumber head))) GoesOnBlock _ (λ head.
-    after_token (mark marks.Open) InBlock (some_mark marks.Open) (λ o. Then (Meant plain_number) (AfterNumber head)) GoesOnBlock _ (λ o.
-    after_token plain_number InBlock some_plain_number (AfterNumber head) GoesOnBlock _ (λ number.
+    after_token (keyword keywords.Block) tt (some_keyword keywords.Block) (λ head. Then (Meant (mark marks.Open)) (λ o. Then (Meant plain_number) (AfterNumber head))) GoesOnBlock _ (λ head.
+    after_token (mark marks.Open) tt (some_mark marks.Open) (λ o. Then (Meant plain_number) (AfterNumber head)) GoesOnBlock _ (λ o.
+    after_token plain_number tt some_plain_number (AfterNumber head) GoesOnBlock _ (λ number.
     after_free Note (λ right. Then (Meant (mark marks.Colon)) (λ k. AfterColon head number)) GoesOnBlock note_at _ note_reads (λ right.
-    after_token (mark marks.Colon) InBlock (some_mark marks.Colon) (λ k. AfterColon head number) GoesOnBlock _ (λ k.
+    after_token (mark marks.Colon) tt (some_mark marks.Colon) (λ k. AfterColon head number) GoesOnBlock _ (λ k.
     body_reads head number)))))
 
 block_spelled : (x : BlockText) (w : List Token) → BlockForm x w → SpellsBlock x w

@@ -9,8 +9,6 @@ use Rattle.grammar.proofs.Sequence.{Never}
 use Rattle.pm_ops.specs.declared.code.Code.{Code}
 use Rattle.pm_ops.specs.declared.code.Code.TheVariants as codes
 use Rattle.gim_text.specs.Meanings.{mark, keyword, block_word}
-use Rattle.gim_text.specs.declared.fault.Part.{Part}
-use Rattle.gim_text.specs.declared.fault.Part.TheVariants.{InBlock}
 use Rattle.pm_places.specs.declared.span.Span.{Span}
 use Rattle.gim_text.specs.declared.token.Token.{Token}
 use Rattle.gim_text.specs.declared.token.Token.TheVariants as tokens
@@ -19,12 +17,12 @@ use Rattle.gim_text.specs.declared.token.Mark.TheVariants as marks
 use Rattle.gim_text.specs.declared.tree.OperandText.{OperandText}
 use Rattle.gim_text.specs.declared.tree.EndText.{EndText}
 use Rattle.gim_text.specs.declared.tree.EndText.TheVariants as ends_with
-use Rattle.gim_marks.specs.Grammar.{Closing}
-use Rattle.gim_marks.specs.Readers.{mark_at, keyword_at, closing_at}
-use Rattle.gim_marks.proofs.Parts.{Reads, nothing, seen_by, after_token, after_free, in_words, widened}
-use Rattle.gim_marks.proofs.Starts.{Begun, meant_begun, front_begun, before_token, Either, left_of, right_of}
-use Rattle.gim_marks.proofs.MarksExact.{some_mark, some_keyword, some_block_word, mark_reads}
-use Rattle.gim_marks.proofs.BalancedExact.{closing_reads}
+use Rattle.gim_words.specs.Parentheses.{Closing}
+use Rattle.gim_words.specs.TokenReaders.{mark_at, keyword_at, closing_at}
+use Rattle.grammar.proofs.EveryInput.{Reads, nothing, seen_by, after_token, after_free, in_words, widened}
+use Rattle.grammar.proofs.Starts.{Begun, meant_begun, front_begun, before_token, Either, left_of, right_of}
+use Rattle.gim_words.proofs.TokensExact.{some_mark, some_keyword, some_block_word, mark_reads}
+use Rattle.gim_words.proofs.BalancedExact.{closing_reads}
 use Rattle.gim_statements.specs.Words.{comparison_code}
 use Rattle.gim_statements.specs.Grammar.{SpellsOperand, SpellsJump, SpellsEnd, SpellsEndIfAny, GoesOnBlock}
 use Rattle.gim_statements.specs.OperandReaders.{operand_at}
@@ -40,11 +38,11 @@ NoteForm = Then (Meant (mark marks.Open)) (λ o. Then Closing (λ k. Meant (mark
 JumpEnd : Spelling Token Span
 JumpEnd = Either (Meant (mark marks.Semicolon)) NoteForm
 
-note_form_reads : Reads NoteForm Never (λ input. mark_at marks.Open InBlock input >>= λ o. closing_at InBlock o.1 >>= λ k. mark_at marks.Semicolon InBlock k.1)
+note_form_reads : Reads NoteForm Never (λ input. mark_at marks.Open input >>= λ o. closing_at o.1 >>= λ k. mark_at marks.Semicolon k.1)
 unfolding NoteForm
 note_form_reads =
-    after_token (mark marks.Open) InBlock (some_mark marks.Open) (λ o. Then Closing (λ k. Meant (mark marks.Semicolon))) Never (λ o. closing_at InBlock o.1 >>= λ k. mark_at marks.Semicolon InBlock k.1) (λ o.
-    after_free Closing (λ k. Meant (mark marks.Semicolon)) Never (closing_at InBlock) (λ k. mark_at marks.Semicolon InBlock k.1) (closing_reads InBlock) (λ k. mark_reads marks.Semicolon InBlock Never))
+    after_token (mark marks.Open) tt (some_mark marks.Open) (λ o. Then Closing (λ k. Meant (mark marks.Semicolon))) Never (λ o. closing_at o.1 >>= λ k. mark_at marks.Semicolon k.1) (λ o.
+    after_free Closing (λ k. Meant (mark marks.Semicolon)) Never (closing_at) (λ k. mark_at marks.Semicolon k.1) (closing_reads) (λ k. mark_reads marks.Semicolon Never))
 
 note_form_begun : (x : Span) (w : List Token) → NoteForm x w → Begun IsOpen w
 unfolding NoteForm
@@ -64,8 +62,8 @@ jump_end_exact (tokens.Mark marks.Open at ∷ rest) =
     right_of (Meant (mark marks.Semicolon)) NoteForm Never IsSemicolon (meant_begun (mark marks.Semicolon) IsSemicolon semicolon_is) note_form_reads.some
     (tokens.Mark marks.Open at ∷ rest) (jump_end_at (tokens.Mark marks.Open at ∷ rest)) (λ h. h) (note_form_reads.exact (tokens.Mark marks.Open at ∷ rest))
 jump_end_exact input =
-    left_of (Meant (mark marks.Semicolon)) NoteForm Never IsOpen note_form_begun (some_mark marks.Semicolon) input (mark_at marks.Semicolon InBlock input) (λ h. h)
-    ((mark_reads marks.Semicolon InBlock Never).exact input)
+    left_of (Meant (mark marks.Semicolon)) NoteForm Never IsOpen note_form_begun (some_mark marks.Semicolon) input (mark_at marks.Semicolon input) (λ h. h)
+    ((mark_reads marks.Semicolon Never).exact input)
 
 jump_end_reads : Reads JumpEnd Never jump_end_at
 unfolding JumpEnd
@@ -79,8 +77,8 @@ JumpForm = Then (Meant (keyword keywords.Goto)) (λ g. Then (Meant block_word) (
 jump_form_reads : Reads JumpForm Never jump_at
 unfolding JumpForm
 jump_form_reads =
-    after_token (keyword keywords.Goto) InBlock (some_keyword keywords.Goto) (λ g. Then (Meant block_word) (λ target. Mapped (λ e. target) JumpEnd)) Never _ (λ g.
-    after_token block_word InBlock some_block_word (λ target. Mapped (λ e. target) JumpEnd) Never _ (λ target.
+    after_token (keyword keywords.Goto) tt (some_keyword keywords.Goto) (λ g. Then (Meant block_word) (λ target. Mapped (λ e. target) JumpEnd)) Never _ (λ g.
+    after_token block_word tt some_block_word (λ target. Mapped (λ e. target) JumpEnd) Never _ (λ target.
     seen_by (λ e. target) JumpEnd Never jump_end_at jump_end_reads))
 
 jump_reads : Reads SpellsJump Never jump_at
@@ -113,17 +111,17 @@ AfterFirst a op = Then SpellsOperand (λ b. Then (Meant (mark marks.Close)) (λ 
 IfForm : Spelling Token EndText
 IfForm = Then (Meant (keyword keywords.If)) (λ i. Then (Meant (mark marks.Open)) (λ o. Then SpellsOperand (λ a. Then (Meant comparison_code) (AfterFirst a))))
 
-if_reads : Reads IfForm Never (λ input. keyword_at keywords.If InBlock input >>= λ i. if_at i.1)
+if_reads : Reads IfForm Never (λ input. keyword_at keywords.If input >>= λ i. if_at i.1)
 unfolding IfForm AfterFirst Targets
 if_reads =
-    after_token (keyword keywords.If) InBlock (some_keyword keywords.If) (λ i. Then (Meant (mark marks.Open)) (λ o. Then SpellsOperand (λ a. Then (Meant comparison_code) (AfterFirst a)))) Never (λ i. if_at i.1) (λ i.
-    after_token (mark marks.Open) InBlock (some_mark marks.Open) (λ o. Then SpellsOperand (λ a. Then (Meant comparison_code) (AfterFirst a))) Never _ (λ o.
+    after_token (keyword keywords.If) tt (some_keyword keywords.If) (λ i. Then (Meant (mark marks.Open)) (λ o. Then SpellsOperand (λ a. Then (Meant comparison_code) (AfterFirst a)))) Never (λ i. if_at i.1) (λ i.
+    after_token (mark marks.Open) tt (some_mark marks.Open) (λ o. Then SpellsOperand (λ a. Then (Meant comparison_code) (AfterFirst a))) Never _ (λ o.
     before_token SpellsOperand comparison_code (λ a op. AfterFirst a op) IsOpen Never compared_apart operand_at _ operand_reads (λ a.
-    after_token comparison_code InBlock some_comparison (AfterFirst a) Never _ (λ op.
+    after_token comparison_code tt some_comparison (AfterFirst a) Never _ (λ op.
     before_token SpellsOperand (mark marks.Close) (λ b k. Targets op a b) IsOpen Never close_apart operand_at _ operand_reads (λ b.
-    after_token (mark marks.Close) InBlock (some_mark marks.Close) (λ k. Targets op a b) Never _ (λ k.
+    after_token (mark marks.Close) tt (some_mark marks.Close) (λ k. Targets op a b) Never _ (λ k.
     after_free SpellsJump (λ target. Then (Meant (keyword keywords.Else)) (λ e. Mapped (ends_with.If op a b target) SpellsJump)) Never jump_at _ jump_reads (λ target.
-    after_token (keyword keywords.Else) InBlock (some_keyword keywords.Else) (λ e. Mapped (ends_with.If op a b target) SpellsJump) Never _ (λ e.
+    after_token (keyword keywords.Else) tt (some_keyword keywords.Else) (λ e. Mapped (ends_with.If op a b target) SpellsJump) Never _ (λ e.
     seen_by (ends_with.If op a b target) SpellsJump Never jump_at jump_reads))))))))
   where
     some_comparison : Begins (Meant comparison_code) []
@@ -138,12 +136,12 @@ semicolon_apart t h = absurd h
 ReturnForm : Spelling Token EndText
 ReturnForm = Then (Meant (keyword keywords.Return)) (λ r. Then SpellsOperand (λ a. Then (Meant (mark marks.Semicolon)) (λ e. Nothing (ends_with.Return a))))
 
-return_reads : Reads ReturnForm Never (λ input. keyword_at keywords.Return InBlock input >>= λ r. return_at r.1)
+return_reads : Reads ReturnForm Never (λ input. keyword_at keywords.Return input >>= λ r. return_at r.1)
 unfolding ReturnForm
 return_reads =
-    after_token (keyword keywords.Return) InBlock (some_keyword keywords.Return) (λ r. Then SpellsOperand (λ a. Then (Meant (mark marks.Semicolon)) (λ e. Nothing (ends_with.Return a)))) Never (λ r. return_at r.1) (λ r.
+    after_token (keyword keywords.Return) tt (some_keyword keywords.Return) (λ r. Then SpellsOperand (λ a. Then (Meant (mark marks.Semicolon)) (λ e. Nothing (ends_with.Return a)))) Never (λ r. return_at r.1) (λ r.
     before_token SpellsOperand (mark marks.Semicolon) (λ a e. Nothing (ends_with.Return a)) IsOpen Never semicolon_apart operand_at _ operand_reads (λ a.
-    after_token (mark marks.Semicolon) InBlock (some_mark marks.Semicolon) (λ e. Nothing (ends_with.Return a)) Never (λ e. Ok (ends_with.Return a, e.1)) (λ e.
+    after_token (mark marks.Semicolon) tt (some_mark marks.Semicolon) (λ e. Nothing (ends_with.Return a)) Never (λ e. Ok (ends_with.Return a, e.1)) (λ e.
     nothing (ends_with.Return a) Never)))
 
 -- ends
@@ -245,7 +243,7 @@ end_begun x t w s = by_sort (sort_of x (t ∷ w) s)
     by_sort (an_if (end, s, same)) = if_starts t (if_begun end (t ∷ w) s)
     by_sort (a_return (end, s, same)) = return_starts t (return_begun end (t ∷ w) s)
 
-no_end_exact : (input : List Token) → ¬ Begun StartsEnd input → IsExact {E = Part} SpellsEndIfAny GoesOnBlock input (Ok (None, input))
+no_end_exact : (input : List Token) → ¬ Begun StartsEnd input → IsExact {E = Unit {0}} SpellsEndIfAny GoesOnBlock input (Ok (None, input))
 no_end_exact input none = skipped SpellsEndIfAny GoesOnBlock None refl (λ x s. alone x (sort_of x [] s)) input refuses
   where
     alone : (x : Option EndText) → Sort x [] → x ≡ None
@@ -258,7 +256,7 @@ no_end_exact input none = skipped SpellsEndIfAny GoesOnBlock None refl (λ x s. 
     refuses t rest e x w s = none (subst (λ l. Begun StartsEnd l) (sym e) (end_begun x t w s))
 
 -- what ends by itself, counted as going on by the tokens that go on a block
-in_block : {A : Type 0} (N : Spelling Token A) (read : List Token → Answer Token Part A) → Reads N Never read → (input : List Token) → IsExact N GoesOnBlock input (read input)
+in_block : {A : Type 0} (N : Spelling Token A) (read : List Token → Answer Token (Unit {0}) A) → Reads N Never read → (input : List Token) → IsExact N GoesOnBlock input (read input)
 in_block N read reads input = (widened N Never GoesOnBlock read (λ t h. absurd h) reads).exact input
 
 end_exact : (input : List Token) → IsExact SpellsEndIfAny GoesOnBlock input (end_at input)
@@ -278,7 +276,7 @@ end_exact (tokens.Keyword keywords.Goto at ∷ rest) =
 end_exact (tokens.Keyword keywords.If at ∷ rest) =
     from_here (Mapped (λ end. Some end) IfForm) SpellsEndIfAny GoesOnBlock (tokens.Keyword keywords.If at) rest (end_at (tokens.Keyword keywords.If at ∷ rest))
     to (λ x w s. back x w (sort_of x (tokens.Keyword keywords.If at ∷ w) s)) (λ x s. tt)
-    (in_block (Mapped (λ end. Some end) IfForm) (λ input. (keyword_at keywords.If InBlock input >>= λ i. if_at i.1) >>= λ end. Ok (Some end.0, end.1)) (seen_by (λ end. Some end) IfForm Never (λ input. keyword_at keywords.If InBlock input >>= λ i. if_at i.1) if_reads) (tokens.Keyword keywords.If at ∷ rest))
+    (in_block (Mapped (λ end. Some end) IfForm) (λ input. (keyword_at keywords.If input >>= λ i. if_at i.1) >>= λ end. Ok (Some end.0, end.1)) (seen_by (λ end. Some end) IfForm Never (λ input. keyword_at keywords.If input >>= λ i. if_at i.1) if_reads) (tokens.Keyword keywords.If at ∷ rest))
   where
     to : (x : Option EndText) (w : List Token) → Mapped (λ end. Some end) IfForm x w → SpellsEndIfAny x w
     to x w (end, s, same) = subst (λ y. SpellsEndIfAny y w) same (if_spelled end w s)
@@ -291,7 +289,7 @@ end_exact (tokens.Keyword keywords.If at ∷ rest) =
 end_exact (tokens.Keyword keywords.Return at ∷ rest) =
     from_here (Mapped (λ end. Some end) ReturnForm) SpellsEndIfAny GoesOnBlock (tokens.Keyword keywords.Return at) rest (end_at (tokens.Keyword keywords.Return at ∷ rest))
     to (λ x w s. back x w (sort_of x (tokens.Keyword keywords.Return at ∷ w) s)) (λ x s. tt)
-    (in_block (Mapped (λ end. Some end) ReturnForm) (λ input. (keyword_at keywords.Return InBlock input >>= λ r. return_at r.1) >>= λ end. Ok (Some end.0, end.1)) (seen_by (λ end. Some end) ReturnForm Never (λ input. keyword_at keywords.Return InBlock input >>= λ r. return_at r.1) return_reads) (tokens.Keyword keywords.Return at ∷ rest))
+    (in_block (Mapped (λ end. Some end) ReturnForm) (λ input. (keyword_at keywords.Return input >>= λ r. return_at r.1) >>= λ end. Ok (Some end.0, end.1)) (seen_by (λ end. Some end) ReturnForm Never (λ input. keyword_at keywords.Return input >>= λ r. return_at r.1) return_reads) (tokens.Keyword keywords.Return at ∷ rest))
   where
     to : (x : Option EndText) (w : List Token) → Mapped (λ end. Some end) ReturnForm x w → SpellsEndIfAny x w
     to x w (end, s, same) = subst (λ y. SpellsEndIfAny y w) same (return_spelled end w s)

@@ -7,8 +7,6 @@ use Rattle.grammar.specs.Exact.{IsApart, IsExact}
 use Rattle.grammar.proofs.Sequence.{Never}
 use Rattle.grammar.proofs.Chains.{items_of_steps, steps_of_items}
 use Rattle.gim_text.specs.Meanings.{mark, keyword, identifier, block_word}
-use Rattle.gim_text.specs.declared.fault.Part.{Part}
-use Rattle.gim_text.specs.declared.fault.Part.TheVariants.{InBlock}
 use Rattle.pm_places.specs.declared.span.Span.{Span}
 use Rattle.gim_text.specs.declared.token.Token.{Token}
 use Rattle.gim_text.specs.declared.token.Token.TheVariants as tokens
@@ -17,11 +15,11 @@ use Rattle.gim_text.specs.declared.token.Mark.TheVariants as marks
 use Rattle.gim_text.specs.declared.tree.ArgText.{ArgText}
 use Rattle.gim_text.specs.declared.tree.ItemText.{ItemText}
 use Rattle.gim_text.specs.declared.tree.ItemText.TheVariants as items
-use Rattle.gim_marks.specs.Readers.{mark_at, keyword_at}
-use Rattle.gim_marks.proofs.Parts.{Reads, nothing, seen_by, after_token, in_sequence, in_words}
-use Rattle.gim_marks.proofs.Starts.{Begun, meant_begun, front_begun, before_token, Either, left_of, right_of}
-use Rattle.gim_marks.proofs.Loops as loops
-use Rattle.gim_marks.proofs.MarksExact.{some_mark, some_keyword, some_name, some_block_word}
+use Rattle.gim_words.specs.TokenReaders.{mark_at, keyword_at}
+use Rattle.grammar.proofs.EveryInput.{Reads, nothing, seen_by, after_token, in_sequence, in_words}
+use Rattle.grammar.proofs.Starts.{Begun, meant_begun, front_begun, before_token, Either, left_of, right_of}
+use Rattle.grammar.proofs.Items as loops
+use Rattle.gim_words.proofs.TokensExact.{some_mark, some_keyword, some_name, some_block_word}
 use Rattle.gim_statements.specs.Grammar.{SpellsOperand, SpellsRight, SpellsArg, SpellsFurtherArg, SpellsArgs, SpellsItem}
 use Rattle.gim_statements.specs.OperandReaders.{operand_at}
 use Rattle.gim_statements.specs.RightReaders.{right_at}
@@ -37,8 +35,8 @@ ArgForm = Then (Meant block_word) (λ from. Then (Meant (mark marks.Colon)) (λ 
 arg_form_reads : Reads ArgForm IsOpen arg_at
 unfolding ArgForm
 arg_form_reads =
-    after_token block_word InBlock some_block_word (λ from. Then (Meant (mark marks.Colon)) (λ k. Mapped (λ a. record { from = from; operand = a }) SpellsOperand)) IsOpen _ (λ from.
-    after_token (mark marks.Colon) InBlock (some_mark marks.Colon) (λ k. Mapped (λ a. record { from = from; operand = a }) SpellsOperand) IsOpen _ (λ k.
+    after_token block_word tt some_block_word (λ from. Then (Meant (mark marks.Colon)) (λ k. Mapped (λ a. record { from = from; operand = a }) SpellsOperand)) IsOpen _ (λ from.
+    after_token (mark marks.Colon) tt (some_mark marks.Colon) (λ k. Mapped (λ a. record { from = from; operand = a }) SpellsOperand) IsOpen _ (λ k.
     seen_by (λ a. record { from = from; operand = a }) SpellsOperand IsOpen operand_at operand_reads))
 
 arg_reads : Reads SpellsArg IsOpen arg_at
@@ -51,14 +49,14 @@ arg_reads = in_words ArgForm SpellsArg IsOpen arg_at to back arg_form_reads
     back : (x : ArgText) (w : List Token) → SpellsArg x w → ArgForm x w
     back x w (u, v, word, (u1, v1, (k, colon), s, cut1), cut) = (x.from, u, v, word, (k, u1, v1, colon, (x.operand, s, refl), cut1), cut)
 
-further_at : List Token → Answer Token Part ArgText
-further_at input = mark_at marks.Comma InBlock input >>= λ m. arg_at m.1
+further_at : List Token → Answer Token (Unit {0}) ArgText
+further_at input = mark_at marks.Comma input >>= λ m. arg_at m.1
 
 further_reads : Reads SpellsFurtherArg IsOpen further_at
 unfolding further_at
 further_reads =
     in_words (Then (Meant (mark marks.Comma)) (λ m. SpellsArg)) SpellsFurtherArg IsOpen further_at to back
-    (after_token (mark marks.Comma) InBlock (some_mark marks.Comma) (λ m. SpellsArg) IsOpen (λ m. arg_at m.1) (λ m. arg_reads))
+    (after_token (mark marks.Comma) tt (some_mark marks.Comma) (λ m. SpellsArg) IsOpen (λ m. arg_at m.1) (λ m. arg_reads))
   where
     to : (x : ArgText) (w : List Token) → Then (Meant (mark marks.Comma)) (λ m. SpellsArg) x w → SpellsFurtherArg x w
     to x w (m, u, v, comma, s, cut) = (u, v, (m, comma), s, cut)
@@ -99,11 +97,11 @@ further_begun x w (u, v, (m, comma), s, cut) = front_begun IsComma u v w (meant_
 none_is_some : {A : Type 0} (x : A) → None ≡ Some x → ⊥
 none_is_some x e = cc
 
-arg_goes_on : (s : List ArgText) (t : Token) (rest : List Token) (answer : Answer Token Part (List ArgText)) → further_arg_at s (t ∷ rest) ≡ Some answer → GoesOnArgs t
+arg_goes_on : (s : List ArgText) (t : Token) (rest : List Token) (answer : Answer Token (Unit {0}) (List ArgText)) → further_arg_at s (t ∷ rest) ≡ Some answer → GoesOnArgs t
 arg_goes_on s (tokens.Mark marks.Comma at) rest answer e = tt
 arg_goes_on s t rest answer e = absurd (none_is_some answer e)
 
-arg_more : (s : List ArgText) (t : Token) (rest : List Token) (answer : Answer Token Part (List ArgText)) → further_arg_at s (t ∷ rest) ≡ Some answer
+arg_more : (s : List ArgText) (t : Token) (rest : List Token) (answer : Answer Token (Unit {0}) (List ArgText)) → further_arg_at s (t ∷ rest) ≡ Some answer
     → (further_at (t ∷ rest) >>= λ x. Ok (s ++ x.0 ∷ [], x.1)) ≡ answer
 unfolding further_at
 arg_more s (tokens.Mark marks.Comma at) rest answer e = cc
@@ -147,14 +145,14 @@ AfterPhi name = Then (Meant (mark marks.Open)) (λ o. Then SpellsArgs (AfterArgs
 PhiForm : Span → Spelling Token ItemText
 PhiForm name = Then (Meant (keyword keywords.Phi)) (λ p. AfterPhi name)
 
-phi_reads : (name : Span) → Reads (PhiForm name) Never (λ input. keyword_at keywords.Phi InBlock input >>= λ p. phi_at name p.1)
+phi_reads : (name : Span) → Reads (PhiForm name) Never (λ input. keyword_at keywords.Phi input >>= λ p. phi_at name p.1)
 unfolding PhiForm AfterPhi AfterArgs
 phi_reads name =
-    after_token (keyword keywords.Phi) InBlock (some_keyword keywords.Phi) (λ p. AfterPhi name) Never (λ p. phi_at name p.1) (λ p.
-    after_token (mark marks.Open) InBlock (some_mark marks.Open) (λ o. Then SpellsArgs (AfterArgs name)) Never _ (λ o.
+    after_token (keyword keywords.Phi) tt (some_keyword keywords.Phi) (λ p. AfterPhi name) Never (λ p. phi_at name p.1) (λ p.
+    after_token (mark marks.Open) tt (some_mark marks.Open) (λ o. Then SpellsArgs (AfterArgs name)) Never _ (λ o.
     before_token SpellsArgs (mark marks.Close) (λ args k. Then (Meant (mark marks.Semicolon)) (λ e. Nothing (items.Phi name args))) GoesOnArgs Never close_not_in_args args_at _ args_reads (λ args.
-    after_token (mark marks.Close) InBlock (some_mark marks.Close) (λ k. Then (Meant (mark marks.Semicolon)) (λ e. Nothing (items.Phi name args))) Never _ (λ k.
-    after_token (mark marks.Semicolon) InBlock (some_mark marks.Semicolon) (λ e. Nothing (items.Phi name args)) Never (λ e. Ok (items.Phi name args, e.1)) (λ e.
+    after_token (mark marks.Close) tt (some_mark marks.Close) (λ k. Then (Meant (mark marks.Semicolon)) (λ e. Nothing (items.Phi name args))) Never _ (λ k.
+    after_token (mark marks.Semicolon) tt (some_mark marks.Semicolon) (λ e. Nothing (items.Phi name args)) Never (λ e. Ok (items.Phi name args, e.1)) (λ e.
     nothing (items.Phi name args) Never)))))
 
 abbrev IsPhi : Token → Type 0
@@ -182,7 +180,7 @@ stmt_reads : (name : Span) → Reads (StmtForm name) Never (statement_at name)
 unfolding StmtForm
 stmt_reads name =
     before_token SpellsRight (mark marks.Semicolon) (λ right e. Nothing (items.Stmt name right)) GoesOnForm Never semicolon_apart right_at _ right_reads (λ right.
-    after_token (mark marks.Semicolon) InBlock (some_mark marks.Semicolon) (λ e. Nothing (items.Stmt name right)) Never (λ e. Ok (items.Stmt name right, e.1)) (λ e.
+    after_token (mark marks.Semicolon) tt (some_mark marks.Semicolon) (λ e. Nothing (items.Stmt name right)) Never (λ e. Ok (items.Stmt name right, e.1)) (λ e.
     nothing (items.Stmt name right) Never))
 
 -- no right side begins with `__PHI`
@@ -219,8 +217,8 @@ ItemForm = Then (Meant identifier) (λ name. Then (Meant (mark marks.Assign)) (�
 item_form_reads : Reads ItemForm Never item_at
 unfolding ItemForm Assigned
 item_form_reads =
-    after_token identifier InBlock some_name (λ name. Then (Meant (mark marks.Assign)) (λ e. Assigned name)) Never _ (λ name.
-    after_token (mark marks.Assign) InBlock (some_mark marks.Assign) (λ e. Assigned name) Never (λ e. assigned_at name e.1) (λ e.
+    after_token identifier tt some_name (λ name. Then (Meant (mark marks.Assign)) (λ e. Assigned name)) Never _ (λ name.
+    after_token (mark marks.Assign) tt (some_mark marks.Assign) (λ e. Assigned name) Never (λ e. assigned_at name e.1) (λ e.
     record { some = some_assigned name; exact = λ input. assigned_exact name input }))
   where
     some_assigned : (name : Span) → Begins (Assigned name) []

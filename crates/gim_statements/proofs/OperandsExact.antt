@@ -7,8 +7,6 @@ use Rattle.grammar.specs.Exact.{IsExact}
 use Rattle.grammar.proofs.Parts.{starting_so, refused, mapped, SameStart}
 use Rattle.pm_wide.specs.Types.{Ty}
 use Rattle.gim_text.specs.Meanings.{mark, keyword, identifier, span_of}
-use Rattle.gim_text.specs.declared.fault.Part.{Part}
-use Rattle.gim_text.specs.declared.fault.Part.TheVariants.{InBlock}
 use Rattle.pm_places.specs.declared.span.Span.{Span}
 use Rattle.gim_text.specs.declared.token.Token.{Token}
 use Rattle.gim_text.specs.declared.token.Token.TheVariants as tokens
@@ -21,13 +19,14 @@ use Rattle.gim_text.specs.declared.tree.LiteralType.{LiteralType}
 use Rattle.gim_text.specs.declared.tree.LiteralType.TheVariants.{Plain, Unsigned, Long, UnsignedLong, Written}
 use Rattle.gim_text.specs.declared.tree.OperandText.{OperandText}
 use Rattle.gim_text.specs.declared.tree.OperandText.TheVariants as operands
-use Rattle.gim_types.specs.Grammar.{SpellsType, GoesOnType}
-use Rattle.gim_types.specs.Readers.{type_at}
-use Rattle.gim_types.proofs.TypesExact.{some_type, type_exact}
-use Rattle.gim_marks.specs.Readers.{plain_number, mark_at, keyword_at, name_at}
-use Rattle.gim_marks.proofs.Parts.{Reads, nothing, one_token, seen_by, after_token}
-use Rattle.gim_marks.proofs.Starts.{Begun, meant_begun, front_begun, same_begun, widen_begun, before_token, Optional, taken, left_out}
-use Rattle.gim_marks.proofs.MarksExact.{some_mark, some_keyword, some_name, some_plain_number}
+use Rattle.gim_words.specs.Types.{SpellsType, GoesOnType}
+use Rattle.gim_words.specs.TypeReaders.{type_at}
+use Rattle.gim_words.proofs.TypesExact.{some_type, type_exact}
+use Rattle.gim_words.specs.Tokens.{plain_number}
+use Rattle.gim_words.specs.TokenReaders.{mark_at, keyword_at, name_at}
+use Rattle.grammar.proofs.EveryInput.{Reads, nothing, one_token, seen_by, after_token}
+use Rattle.grammar.proofs.Starts.{Begun, meant_begun, front_begun, same_begun, widen_begun, before_token, Optional, taken, left_out}
+use Rattle.gim_words.proofs.TokensExact.{some_mark, some_keyword, some_name, some_plain_number}
 use Rattle.gim_statements.specs.declared.operand.Constant.{Constant}
 use Rattle.gim_statements.specs.Words.{literal_number}
 use Rattle.gim_statements.specs.Grammar.{BeginsAt, Signed, SpellsConstant, SpellsOperand}
@@ -113,11 +112,11 @@ module _ {A : Type 0} (meaning : Token → Option A) (some : Begins (Meant meani
   AfterMinus : Spelling Token (Bool × A)
   AfterMinus = Then (Meant (mark marks.Minus)) (λ at. Mapped (λ x. (true, x)) (Meant meaning))
 
-  after_minus : Reads AfterMinus more (λ input. mark_at marks.Minus InBlock input >>= λ at. meant_at meaning InBlock at.1 >>= λ x. Ok ((true, x.0), x.1))
+  after_minus : Reads AfterMinus more (λ input. mark_at marks.Minus input >>= λ at. meant_at meaning tt at.1 >>= λ x. Ok ((true, x.0), x.1))
   unfolding AfterMinus
   after_minus =
-      after_token (mark marks.Minus) InBlock (some_mark marks.Minus) (λ at. Mapped (λ x. (true, x)) (Meant meaning)) more _ (λ at.
-      seen_by (λ x. (true, x)) (Meant meaning) more _ (one_token meaning InBlock more some))
+      after_token (mark marks.Minus) tt (some_mark marks.Minus) (λ at. Mapped (λ x. (true, x)) (Meant meaning)) more _ (λ at.
+      seen_by (λ x. (true, x)) (Meant meaning) more _ (one_token meaning tt more some))
 
   negative_exact : (at : Span) (rest : List Token) → IsExact (SpellsSigned meaning) more (tokens.Mark marks.Minus at ∷ rest) (signed_at meaning (tokens.Mark marks.Minus at ∷ rest))
   unfolding AfterMinus
@@ -132,10 +131,10 @@ module _ {A : Type 0} (meaning : Token → Option A) (some : Begins (Meant meani
       back (true, y) w (u, v, (p, minus), number, cut) start = (p, u, v, minus, (y, number, refl), cut)
       back (false, y) w number start = absurd (same_begun IsNumber (tokens.Mark marks.Minus at ∷ rest) w start (meant_begun meaning IsNumber is_number y w number))
 
-  positive_exact : (input : List Token) → ¬ Begun IsMinus input → IsExact (SpellsSigned meaning) more input (meant_at meaning InBlock input >>= λ x. Ok ((false, x.0), x.1))
+  positive_exact : (input : List Token) → ¬ Begun IsMinus input → IsExact (SpellsSigned meaning) more input (meant_at meaning (tt {0}) input >>= λ x. Ok ((false, x.0), x.1))
   positive_exact input no_minus =
-      starting_so (Mapped (λ x. (false, x)) (Meant meaning)) (SpellsSigned meaning) more input (meant_at meaning InBlock input >>= λ x. Ok ((false, x.0), x.1)) some_signed (λ x w s start. to x w s) back
-      ((seen_by (λ x. (false, x)) (Meant meaning) more (meant_at meaning InBlock) (one_token meaning InBlock more some)).exact input)
+      starting_so (Mapped (λ x. (false, x)) (Meant meaning)) (SpellsSigned meaning) more input (meant_at meaning (tt {0}) input >>= λ x. Ok ((false, x.0), x.1)) some_signed (λ x w s start. to x w s) back
+      ((seen_by (λ x. (false, x)) (Meant meaning) more (meant_at meaning (tt {0})) (one_token meaning (tt {0}) more some)).exact input)
     where
       to : (x : Bool × A) (w : List Token) → Mapped (λ x. (false, x)) (Meant meaning) x w → SpellsSigned meaning x w
       to x w (y, number, same) = subst (λ k. SpellsSigned meaning k w) same number
@@ -233,8 +232,8 @@ some_constant = record { value = bare some_signed_number.value; after = some_sig
     some_signed_number : Begins (SpellsSigned literal_number) []
     some_signed_number = some_signed literal_number some_literal_number number_is (λ t. ⊥)
 
-pub type_reads : Reads SpellsType GoesOnType (type_at InBlock)
-type_reads = record { some = some_type; exact = λ input. type_exact InBlock input }
+pub type_reads : Reads SpellsType GoesOnType (type_at)
+type_reads = record { some = some_type; exact = λ input. type_exact input }
 
 pub close_not_in_type : (t : Token) → GoesOnType t → mark marks.Close t ≡ None
 close_not_in_type (tokens.TypeWord word at) h = refl
@@ -252,9 +251,9 @@ WrittenLiteral = Then (Meant (keyword keywords.Literal)) (λ k. AfterOpen)
 written_reads : (more : Token → Type 0) → Reads AfterOpen more written_at
 unfolding AfterOpen AfterClose
 written_reads more =
-    after_token (mark marks.Open) InBlock (some_mark marks.Open) (λ o. Then SpellsType AfterClose) more _ (λ o.
-    before_token SpellsType (mark marks.Close) (λ t k. Mapped (written t) (SpellsSigned plain_number)) GoesOnType more close_not_in_type (type_at InBlock) _ type_reads (λ t.
-    after_token (mark marks.Close) InBlock (some_mark marks.Close) (λ k. Mapped (written t) (SpellsSigned plain_number)) more _ (λ k.
+    after_token (mark marks.Open) tt (some_mark marks.Open) (λ o. Then SpellsType AfterClose) more _ (λ o.
+    before_token SpellsType (mark marks.Close) (λ t k. Mapped (written t) (SpellsSigned plain_number)) GoesOnType more close_not_in_type (type_at) _ type_reads (λ t.
+    after_token (mark marks.Close) tt (some_mark marks.Close) (λ k. Mapped (written t) (SpellsSigned plain_number)) more _ (λ k.
     seen_by (written t) (SpellsSigned plain_number) more (signed_at plain_number) (signed_reads plain_number some_plain_number plain_number_is more))))
 
 number_exact : (more : Token → Type 0) (input : List Token) → ¬ Begun IsLiteralWord input → IsExact Constants more input (signed_number_at input)
@@ -274,7 +273,7 @@ constant_exact : (more : Token → Type 0) (input : List Token) → IsExact Cons
 unfolding WrittenLiteral AfterOpen AfterClose
 constant_exact more (tokens.Keyword keywords.Literal at ∷ rest) =
     starting_so WrittenLiteral Constants more (tokens.Keyword keywords.Literal at ∷ rest) (written_at rest) some_constant (λ c w s start. to c w s) (λ c w s start. back c.ty c.negative c.number w s start)
-    ((after_token (keyword keywords.Literal) InBlock (some_keyword keywords.Literal) (λ k. AfterOpen) more (λ k. written_at k.1) (λ k. written_reads more)).exact (tokens.Keyword keywords.Literal at ∷ rest))
+    ((after_token (keyword keywords.Literal) tt (some_keyword keywords.Literal) (λ k. AfterOpen) more (λ k. written_at k.1) (λ k. written_reads more)).exact (tokens.Keyword keywords.Literal at ∷ rest))
   where
     to : (c : Constant) (w : List Token) → WrittenLiteral c w → Constants c w
     to c w (k, u, v, word, (o, u1, v1, opened, (t, u2, v2, spelled, (p, u3, v3, close, (x, number, same), cut3), cut2), cut1), cut) =
@@ -297,7 +296,7 @@ pub placed_exact : {A B : Type 0} (N : Spelling Token A) (M : Spelling Token B) 
     → Begins M [] → ((x : A) (w : List Token) → N x w → Begun first w)
     → ((at : Span) (x : A) (w : List Token) → BeginsAt at w → N x w → M (make at x) w)
     → ((y : B) (w : List Token) → M y w → (at : Span) × (x : A) × BeginsAt at w × N x w × (make at x ≡ y))
-    → (t : Token) (rest : List Token) (answer : Answer Token Part A) → IsExact N more (t ∷ rest) answer
+    → (t : Token) (rest : List Token) (answer : Answer Token (Unit {0}) A) → IsExact N more (t ∷ rest) answer
     → IsExact M more (t ∷ rest) (answer >>= λ x. Ok (make (span_of t) x.0, x.1))
 placed_exact {A = A} {B = B} N M make more first some begun to back t rest answer exact =
     starting_so (Mapped (λ x. make (span_of t) x) N) M more (t ∷ rest) (answer >>= λ x. Ok (make (span_of t) x.0, x.1)) some there here
@@ -327,7 +326,7 @@ some_literal = by_text some_constant.value some_constant.after some_constant.spe
 
 literal_exact : (more : Token → Type 0) (input : List Token) → IsExact Literals more input (literal_at input)
 unfolding Literals
-literal_exact more [] = refused Literals more InBlock some_literal [] (λ x s far. never x s) (λ t rest e. absurd (cc))
+literal_exact more [] = refused Literals more tt some_literal [] (λ x s far. never x s) (λ t rest e. absurd (cc))
   where
     never : (x : OperandText) → Literals x [] → ⊥
     never x (l, same, begins, spelled) = begins
@@ -348,12 +347,12 @@ AfterName name = Then (Meant (mark marks.Open)) (λ o. Then (Meant (keyword keyw
 Named : Span → Spelling Token OperandText
 Named name = Optional (operands.Name name) (AfterName name)
 
-with_default : (name : Span) → Reads (AfterName name) IsOpen (λ input. mark_at marks.Open InBlock input >>= λ o. keyword_at keywords.Default InBlock o.1 >>= λ d. mark_at marks.Close InBlock d.1 >>= λ k. Ok (operands.Default name, k.1))
+with_default : (name : Span) → Reads (AfterName name) IsOpen (λ input. mark_at marks.Open input >>= λ o. keyword_at keywords.Default o.1 >>= λ d. mark_at marks.Close d.1 >>= λ k. Ok (operands.Default name, k.1))
 unfolding AfterName
 with_default name =
-    after_token (mark marks.Open) InBlock (some_mark marks.Open) (λ o. Then (Meant (keyword keywords.Default)) (λ d. Then (Meant (mark marks.Close)) (λ k. Nothing (operands.Default name)))) IsOpen _ (λ o.
-    after_token (keyword keywords.Default) InBlock (some_keyword keywords.Default) (λ d. Then (Meant (mark marks.Close)) (λ k. Nothing (operands.Default name))) IsOpen _ (λ d.
-    after_token (mark marks.Close) InBlock (some_mark marks.Close) (λ k. Nothing (operands.Default name)) IsOpen (λ k. Ok (operands.Default name, k.1)) (λ k.
+    after_token (mark marks.Open) tt (some_mark marks.Open) (λ o. Then (Meant (keyword keywords.Default)) (λ d. Then (Meant (mark marks.Close)) (λ k. Nothing (operands.Default name)))) IsOpen _ (λ o.
+    after_token (keyword keywords.Default) tt (some_keyword keywords.Default) (λ d. Then (Meant (mark marks.Close)) (λ k. Nothing (operands.Default name))) IsOpen _ (λ d.
+    after_token (mark marks.Close) tt (some_mark marks.Close) (λ k. Nothing (operands.Default name)) IsOpen (λ k. Ok (operands.Default name, k.1)) (λ k.
     nothing (operands.Default name) IsOpen)))
 
 after_name_begun : (name : Span) (x : OperandText) (w : List Token) → AfterName name x w → Begun IsOpen w
@@ -369,10 +368,10 @@ named_exact name input = left_out (operands.Name name) (AfterName name) IsOpen I
 NamedOperand : Spelling Token OperandText
 NamedOperand = Then (Meant identifier) Named
 
-named_reads : Reads NamedOperand IsOpen (λ input. name_at InBlock input >>= λ name. named_at name.0 name.1)
+named_reads : Reads NamedOperand IsOpen (λ input. name_at input >>= λ name. named_at name.0 name.1)
 unfolding NamedOperand Named AfterName
 named_reads =
-    after_token identifier InBlock some_name Named IsOpen (λ name. named_at name.0 name.1) (λ name.
+    after_token identifier tt some_name Named IsOpen (λ name. named_at name.0 name.1) (λ name.
     record { some = record { value = operands.Name name; after = []; spelled = inl (refl, refl) }; exact = λ input. named_exact name input })
 
 named_spelled : (x : OperandText) (w : List Token) → NamedOperand x w → SpellsOperand x w
@@ -397,7 +396,7 @@ pub some_operand : Begins SpellsOperand []
 unfolding NamedOperand
 some_operand = record { value = named_reads.some.value; after = named_reads.some.after; spelled = named_spelled named_reads.some.value named_reads.some.after named_reads.some.spelled }
 
-name_exact : (input : List Token) → ¬ Begun StartsConstant input → (answer : Answer Token Part OperandText) → IsExact NamedOperand IsOpen input answer → IsExact SpellsOperand IsOpen input answer
+name_exact : (input : List Token) → ¬ Begun StartsConstant input → (answer : Answer Token (Unit {0}) OperandText) → IsExact NamedOperand IsOpen input answer → IsExact SpellsOperand IsOpen input answer
 unfolding NamedOperand Named AfterName
 name_exact input no_constant answer exact = starting_so NamedOperand SpellsOperand IsOpen input answer some_operand (λ x w s start. named_spelled x w s) back exact
   where

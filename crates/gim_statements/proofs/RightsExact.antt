@@ -9,8 +9,6 @@ use Rattle.pm_wide.specs.Types.{Ty}
 use Rattle.pm_ops.specs.declared.code.Code.{Code}
 use Rattle.pm_ops.specs.declared.code.Code.TheVariants as codes
 use Rattle.gim_text.specs.Meanings.{mark, span_of}
-use Rattle.gim_text.specs.declared.fault.Part.{Part}
-use Rattle.gim_text.specs.declared.fault.Part.TheVariants.{InBlock}
 use Rattle.pm_places.specs.declared.span.Span.{Span}
 use Rattle.gim_text.specs.declared.token.Token.{Token}
 use Rattle.gim_text.specs.declared.token.Token.TheVariants as tokens
@@ -25,12 +23,12 @@ use Rattle.gim_text.specs.declared.tree.OperandText.TheVariants as operands
 use Rattle.gim_text.specs.declared.tree.RightText.{RightText}
 use Rattle.gim_text.specs.declared.tree.RightForm.{RightForm}
 use Rattle.gim_text.specs.declared.tree.RightForm.TheVariants as forms
-use Rattle.gim_types.specs.Grammar.{SpellsType, GoesOnType}
-use Rattle.gim_types.specs.Readers.{type_at}
-use Rattle.gim_marks.specs.Readers.{mark_at}
-use Rattle.gim_marks.proofs.Parts.{Reads, nothing, seen_by, after_token, in_sequence, widened}
-use Rattle.gim_marks.proofs.Starts.{Begun, meant_begun, front_begun, same_begun, widen_begun, apart_begun, first_meant, before_token, Optional, left_out, after_first}
-use Rattle.gim_marks.proofs.MarksExact.{some_mark, some_name}
+use Rattle.gim_words.specs.Types.{SpellsType, GoesOnType}
+use Rattle.gim_words.specs.TypeReaders.{type_at}
+use Rattle.gim_words.specs.TokenReaders.{mark_at}
+use Rattle.grammar.proofs.EveryInput.{Reads, nothing, seen_by, after_token, in_sequence, widened}
+use Rattle.grammar.proofs.Starts.{Begun, meant_begun, front_begun, same_begun, widen_begun, apart_begun, first_meant, before_token, Optional, left_out, after_first}
+use Rattle.gim_words.proofs.TokensExact.{some_mark, some_name}
 use Rattle.gim_statements.specs.Words.{prefix_code, infix_code, call_code, literal_number}
 use Rattle.gim_statements.specs.Grammar.{Signed, SpellsConstant, SpellsOperand, BeginsWithNoNumber, MayStandUnder, SpellsForm, SpellsRight}
 use Rattle.gim_statements.specs.OperandReaders.{operand_at}
@@ -101,21 +99,21 @@ unfolding Rest StartsRest
 rest_begun a x w (inl s) = widen_begun (λ t. (op : Code) × (infix_code t ≡ Some op)) StartsRest (λ t h. inl h) w (infix_begun a x w s)
 rest_begun a x w (inr s) = widen_begun IsQuestion StartsRest (λ t h. inr h) w (question_begun a x w s)
 
-infix_rest_reads : (a : OperandText) → Reads (InfixRest a) GoesOnForm (λ input. meant_at infix_code InBlock input >>= λ op. operand_at op.1 >>= λ b. Ok (forms.Binary op.0 a b.0, b.1))
+infix_rest_reads : (a : OperandText) → Reads (InfixRest a) GoesOnForm (λ input. meant_at infix_code tt input >>= λ op. operand_at op.1 >>= λ b. Ok (forms.Binary op.0 a b.0, b.1))
 unfolding InfixRest
 infix_rest_reads a =
-    after_token infix_code InBlock some_infix (λ op. Mapped (forms.Binary op a) SpellsOperand) GoesOnForm _ (λ op.
+    after_token infix_code tt some_infix (λ op. Mapped (forms.Binary op a) SpellsOperand) GoesOnForm _ (λ op.
     widened (Mapped (forms.Binary op a) SpellsOperand) IsOpen GoesOnForm _ open_goes_on (seen_by (forms.Binary op a) SpellsOperand IsOpen operand_at operand_reads))
   where
     some_infix : Begins (Meant infix_code) []
     some_infix = record { value = codes.Plus; after = tokens.Mark marks.Plus (record { from = 0; to = 0 }) ∷ []; spelled = (tokens.Mark marks.Plus (record { from = 0; to = 0 }), refl, refl) }
 
-choice_rest_reads : (c : OperandText) → Reads (ChoiceRest c) GoesOnForm (λ input. mark_at marks.Question InBlock input >>= λ q. choice_at c q.1)
+choice_rest_reads : (c : OperandText) → Reads (ChoiceRest c) GoesOnForm (λ input. mark_at marks.Question input >>= λ q. choice_at c q.1)
 unfolding ChoiceRest AfterColon
 choice_rest_reads c =
-    after_token (mark marks.Question) InBlock (some_mark marks.Question) (λ q. Then SpellsOperand (AfterColon c)) GoesOnForm (λ q. choice_at c q.1) (λ q.
+    after_token (mark marks.Question) tt (some_mark marks.Question) (λ q. Then SpellsOperand (AfterColon c)) GoesOnForm (λ q. choice_at c q.1) (λ q.
     before_token SpellsOperand (mark marks.Colon) (λ a k. Mapped (forms.Choice c a) SpellsOperand) IsOpen GoesOnForm colon_apart operand_at _ operand_reads (λ a.
-    after_token (mark marks.Colon) InBlock (some_mark marks.Colon) (λ k. Mapped (forms.Choice c a) SpellsOperand) GoesOnForm _ (λ k.
+    after_token (mark marks.Colon) tt (some_mark marks.Colon) (λ k. Mapped (forms.Choice c a) SpellsOperand) GoesOnForm _ (λ k.
     widened (Mapped (forms.Choice c a) SpellsOperand) IsOpen GoesOnForm _ open_goes_on (seen_by (forms.Choice c a) SpellsOperand IsOpen operand_at operand_reads))))
 
 Continued : OperandText → Spelling Token RightForm
@@ -134,7 +132,7 @@ operated_exact a t rest no_question None is =
     none (inr question) = no_question question
 operated_exact a t rest no_question (Some op) is =
     from_here (InfixRest a) (Continued a) GoesOnForm t rest (operated a (t ∷ rest) rest (Some op)) (λ x w s. inr (inl s)) back (λ x s. goes_on t op is)
-    (subst (λ o. IsExact (InfixRest a) GoesOnForm (t ∷ rest) (meant_as InBlock t rest o >>= λ p. operand_at p.1 >>= λ b. Ok (forms.Binary p.0 a b.0, b.1))) is ((infix_rest_reads a).exact (t ∷ rest)))
+    (subst (λ o. IsExact (InfixRest a) GoesOnForm (t ∷ rest) (meant_as tt t rest o >>= λ p. operand_at p.1 >>= λ b. Ok (forms.Binary p.0 a b.0, b.1))) is ((infix_rest_reads a).exact (t ∷ rest)))
   where
     goes_on : (t : Token) (op : Code) → infix_code t ≡ Some op → GoesOnForm t
     goes_on (tokens.Mark marks.Open at) op e = tt
@@ -188,15 +186,15 @@ AfterOp op a = Then (Meant (mark marks.Comma)) (λ m. Then SpellsOperand (λ b. 
 CallForm : Spelling Token RightForm
 CallForm = Then (Meant call_code) (λ op. Then (Meant (mark marks.Open)) (λ o. Then SpellsOperand (AfterOp op)))
 
-call_reads : Reads CallForm GoesOnForm (λ input. meant_at call_code InBlock input >>= λ op. call_at op.0 op.1)
+call_reads : Reads CallForm GoesOnForm (λ input. meant_at call_code tt input >>= λ op. call_at op.0 op.1)
 unfolding CallForm AfterOp
 call_reads =
-    after_token call_code InBlock some_call (λ op. Then (Meant (mark marks.Open)) (λ o. Then SpellsOperand (AfterOp op))) GoesOnForm (λ op. call_at op.0 op.1) (λ op.
-    after_token (mark marks.Open) InBlock (some_mark marks.Open) (λ o. Then SpellsOperand (AfterOp op)) GoesOnForm _ (λ o.
+    after_token call_code tt some_call (λ op. Then (Meant (mark marks.Open)) (λ o. Then SpellsOperand (AfterOp op))) GoesOnForm (λ op. call_at op.0 op.1) (λ op.
+    after_token (mark marks.Open) tt (some_mark marks.Open) (λ o. Then SpellsOperand (AfterOp op)) GoesOnForm _ (λ o.
     before_token SpellsOperand (mark marks.Comma) (λ a m. Then SpellsOperand (λ b. Then (Meant (mark marks.Close)) (λ k. Nothing (forms.Binary op a b)))) IsOpen GoesOnForm comma_apart operand_at _ operand_reads (λ a.
-    after_token (mark marks.Comma) InBlock (some_mark marks.Comma) (λ m. Then SpellsOperand (λ b. Then (Meant (mark marks.Close)) (λ k. Nothing (forms.Binary op a b)))) GoesOnForm _ (λ m.
+    after_token (mark marks.Comma) tt (some_mark marks.Comma) (λ m. Then SpellsOperand (λ b. Then (Meant (mark marks.Close)) (λ k. Nothing (forms.Binary op a b)))) GoesOnForm _ (λ m.
     before_token SpellsOperand (mark marks.Close) (λ b k. Nothing (forms.Binary op a b)) IsOpen GoesOnForm close_apart operand_at _ operand_reads (λ b.
-    after_token (mark marks.Close) InBlock (some_mark marks.Close) (λ k. Nothing (forms.Binary op a b)) GoesOnForm (λ k. Ok (forms.Binary op a b, k.1)) (λ k.
+    after_token (mark marks.Close) tt (some_mark marks.Close) (λ k. Nothing (forms.Binary op a b)) GoesOnForm (λ k. Ok (forms.Binary op a b, k.1)) (λ k.
     nothing (forms.Binary op a b) GoesOnForm))))))
   where
     some_call : Begins (Meant call_code) []
@@ -208,12 +206,12 @@ AfterType t = Then (Meant (mark marks.Close)) (λ k. Mapped (forms.Cast t) Spell
 CastForm : Spelling Token RightForm
 CastForm = Then (Meant (mark marks.Open)) (λ o. Then SpellsType AfterType)
 
-cast_reads : Reads CastForm GoesOnForm (λ input. mark_at marks.Open InBlock input >>= λ o. cast_at o.1)
+cast_reads : Reads CastForm GoesOnForm (λ input. mark_at marks.Open input >>= λ o. cast_at o.1)
 unfolding CastForm AfterType
 cast_reads =
-    after_token (mark marks.Open) InBlock (some_mark marks.Open) (λ o. Then SpellsType AfterType) GoesOnForm (λ o. cast_at o.1) (λ o.
-    before_token SpellsType (mark marks.Close) (λ t k. Mapped (forms.Cast t) SpellsOperand) GoesOnType GoesOnForm close_not_in_type (type_at InBlock) _ type_reads (λ t.
-    after_token (mark marks.Close) InBlock (some_mark marks.Close) (λ k. Mapped (forms.Cast t) SpellsOperand) GoesOnForm _ (λ k.
+    after_token (mark marks.Open) tt (some_mark marks.Open) (λ o. Then SpellsType AfterType) GoesOnForm (λ o. cast_at o.1) (λ o.
+    before_token SpellsType (mark marks.Close) (λ t k. Mapped (forms.Cast t) SpellsOperand) GoesOnType GoesOnForm close_not_in_type (type_at) _ type_reads (λ t.
+    after_token (mark marks.Close) tt (some_mark marks.Close) (λ k. Mapped (forms.Cast t) SpellsOperand) GoesOnForm _ (λ k.
     widened (Mapped (forms.Cast t) SpellsOperand) IsOpen GoesOnForm _ open_goes_on (seen_by (forms.Cast t) SpellsOperand IsOpen operand_at operand_reads))))
 
 -- an operation before one operand
@@ -315,7 +313,7 @@ form_not_empty x s = by_sort (sort_of x [] s)
 
 -- forms by their first token
 
-call_exact : (t : Token) (rest : List Token) (answer : Answer Token Part RightForm) → ¬ StartsOperand t → ¬ IsPrefix t → ¬ IsOpen t
+call_exact : (t : Token) (rest : List Token) (answer : Answer Token (Unit {0}) RightForm) → ¬ StartsOperand t → ¬ IsPrefix t → ¬ IsOpen t
     → IsExact CallForm GoesOnForm (t ∷ rest) answer → IsExact SpellsForm GoesOnForm (t ∷ rest) answer
 call_exact t rest answer no_operand no_prefix no_open exact = starting_so CallForm SpellsForm GoesOnForm (t ∷ rest) answer some_form (λ x w s start. call_spelled x w s) (λ x w s start. by_sort x w start (sort_of x w s)) exact
   where
@@ -325,7 +323,7 @@ call_exact t rest answer no_operand no_prefix no_open exact = starting_so CallFo
     by_sort x w start (a_call s) = s
     by_sort x w start (a_cast s) = absurd (no_open (same_begun IsOpen (t ∷ rest) w start (cast_begun x w s)))
 
-cast_exact : (t : Token) (rest : List Token) (answer : Answer Token Part RightForm) → ¬ StartsOperand t → ¬ IsPrefix t → ¬ IsCall t
+cast_exact : (t : Token) (rest : List Token) (answer : Answer Token (Unit {0}) RightForm) → ¬ StartsOperand t → ¬ IsPrefix t → ¬ IsCall t
     → IsExact CastForm GoesOnForm (t ∷ rest) answer → IsExact SpellsForm GoesOnForm (t ∷ rest) answer
 cast_exact t rest answer no_operand no_prefix no_call exact = starting_so CastForm SpellsForm GoesOnForm (t ∷ rest) answer some_form (λ x w s start. cast_spelled x w s) (λ x w s start. by_sort x w start (sort_of x w s)) exact
   where
@@ -430,7 +428,7 @@ constant_form_exact at kind number rest =
     (λ x w s start. infix_spelled x (tokens.Mark marks.Minus at ∷ w) s) (λ x w s start. by_sort x w start (sort_of x (tokens.Mark marks.Minus at ∷ w) s))
     (after_first InfixForm GoesOnForm (tokens.Mark marks.Minus at) (tokens.Number kind number ∷ rest) answer some (infix_reads.exact (tokens.Mark marks.Minus at ∷ tokens.Number kind number ∷ rest))))
   where
-    answer : Answer Token Part RightForm
+    answer : Answer Token (Unit {0}) RightForm
     answer = infix_at (tokens.Mark marks.Minus at ∷ tokens.Number kind number ∷ rest)
 
     some : Begins InfixForm (tokens.Mark marks.Minus at ∷ [])
@@ -528,7 +526,7 @@ some_right = by_text some_form.value some_form.after some_form.spelled
     by_text x (t ∷ w) s = record { value = record { start = span_of t; form = x }; after = t ∷ w; spelled = (refl, s) }
 
 right_exact : (input : List Token) → IsExact SpellsRight GoesOnForm input (right_at input)
-right_exact [] = refused SpellsRight GoesOnForm InBlock some_right [] (λ x s far. s.0) (λ t rest e. absurd (cc))
+right_exact [] = refused SpellsRight GoesOnForm tt some_right [] (λ x s far. s.0) (λ t rest e. absurd (cc))
 right_exact (t ∷ rest) =
     placed_exact SpellsForm SpellsRight (λ at x. record { start = at; form = x }) GoesOnForm starts_form some_right form_begun (λ at x w begins s. (begins, s))
     (λ y w s. (y.start, y.form, s.0, s.1, refl)) t rest (form_at (t ∷ rest)) (form_exact (t ∷ rest))

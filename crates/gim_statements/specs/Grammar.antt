@@ -24,9 +24,9 @@ use Rattle.gim_text.specs.declared.tree.ItemText.TheVariants as items
 use Rattle.gim_text.specs.declared.tree.EndText.{EndText}
 use Rattle.gim_text.specs.declared.tree.EndText.TheVariants as ends
 use Rattle.gim_text.specs.declared.tree.BlockText.{BlockText}
-use Rattle.gim_types.specs.Grammar.{SpellsType}
-use Rattle.gim_marks.specs.Grammar.{Closing}
-use Rattle.gim_marks.specs.Readers.{plain_number}
+use Rattle.gim_words.specs.Types.{SpellsType}
+use Rattle.gim_words.specs.Parentheses.{Closing}
+use Rattle.gim_words.specs.Tokens.{plain_number}
 use Rattle.gim_statements.specs.Words.{prefix_code, comparison_code, infix_code, call_code, literal_number}
 
 -- one after the other

@@ -8,8 +8,8 @@ ghost use Rattle.gim_statements.specs.BlockReaders as readers;
 
 use crate::end::read_end;
 use crate::item::read_item;
-use gim_marks::{read_closing, read_keyword, read_mark, read_plain_number};
-use gim_text::{BlockText, ItemText, Keyword, Mark, Part, Token, TokenFault, TokenStop};
+use gim_text::{BlockText, ItemText, Keyword, Mark, Token, TokenFault, TokenStop};
+use gim_words::{read_closing, read_keyword, read_mark, read_plain_number};
 use pm_items::Items;
 use pm_places::Span;
 use std::alloc::Global;
@@ -20,8 +20,8 @@ fn read_note(tokens: &[Token]) -> Result<(Span, &[Token]), TokenFault<'_>>
     ensures shorter { IfOk result (λ x. length x.1.now < length tokens.now) }
 {
     match tokens {
-        [Token::Mark(Mark::Comma, _), rest @ ..] => read_closing(Part::InBlock, rest),
-        _ => read_mark(Mark::Close, Part::InBlock, tokens),
+        [Token::Mark(Mark::Comma, _), rest @ ..] => read_closing(rest),
+        _ => read_mark(Mark::Close, tokens),
     }
 }
 
@@ -59,11 +59,11 @@ pub fn read_block(alloc: Global, tokens: &[Token]) -> Result<(BlockText, &[Token
     ensures exact { IsExact SpellsBlock GoesOnBlock tokens.now (readers.block_at tokens.now) }
     ensures shorter { IfOk result (λ x. length x.1.now < length tokens.now) }
 {
-    let (head, rest) = read_keyword(Keyword::Block, Part::InBlock, tokens)?;
-    let (_, rest) = read_mark(Mark::Open, Part::InBlock, rest)?;
-    let (number, rest) = read_plain_number(Part::InBlock, rest)?;
+    let (head, rest) = read_keyword(Keyword::Block, tokens)?;
+    let (_, rest) = read_mark(Mark::Open, rest)?;
+    let (number, rest) = read_plain_number(rest)?;
     let (_, rest) = read_note(rest)?;
-    let (_, rest) = read_mark(Mark::Colon, Part::InBlock, rest)?;
+    let (_, rest) = read_mark(Mark::Colon, rest)?;
     let (items, rest) = read!(read_items(alloc, rest));
     let (end, rest) = read!(read_end(rest));
     let block = BlockText {

@@ -3,21 +3,20 @@
 ghost use Rattle.std.specs.Prelude.{◌≡◌, ◌<◌, ◌≤◌, length, IfOk};
 ghost use Rattle.grammar.specs.Gives.{Gives};
 ghost use Rattle.grammar.specs.Reading.{meant_at};
-ghost use Rattle.gim_text.specs.declared.fault.Part.TheVariants.{InBlock};
 ghost use Rattle.gim_statements.specs.Words as words;
 ghost use Rattle.gim_statements.specs.BlockReaders as readers;
 
 use crate::operand::read_operand;
 use crate::words::comparison_code;
-use gim_marks::{read_block_word, read_closing, read_keyword, read_mark};
-use gim_text::{EndText, Keyword, Mark, Part, Token, TokenFault};
+use gim_text::{EndText, Keyword, Mark, Token, TokenFault};
+use gim_words::{read_block_word, read_closing, read_keyword, read_mark};
 use grammar::Fault;
 use pm_ops::Code;
 use pm_places::Span;
 
 /// What compares two operands.
 fn read_comparison(tokens: &[Token]) -> Result<(Code, &[Token]), TokenFault<'_>>
-    ensures reads { Gives (λ x. (x.0, x.1.now)) result (meant_at words.comparison_code InBlock tokens.now) }
+    ensures reads { Gives (λ x. (x.0, x.1.now)) result (meant_at words.comparison_code tt tokens.now) }
     ensures shorter { IfOk result (λ x. length x.1.now < length tokens.now) }
 {
     if let [first, rest @ ..] = tokens {
@@ -26,7 +25,7 @@ fn read_comparison(tokens: &[Token]) -> Result<(Code, &[Token]), TokenFault<'_>>
         }
     }
     Err(Fault {
-        kind: Part::InBlock,
+        kind: (),
         rest: tokens,
     })
 }
@@ -38,10 +37,10 @@ fn read_jump_end(tokens: &[Token]) -> Result<(Span, &[Token]), TokenFault<'_>>
 {
     match tokens {
         [Token::Mark(Mark::Open, _), rest @ ..] => {
-            let (_, rest) = read_closing(Part::InBlock, rest)?;
-            read_mark(Mark::Semicolon, Part::InBlock, rest)
+            let (_, rest) = read_closing(rest)?;
+            read_mark(Mark::Semicolon, rest)
         }
-        _ => read_mark(Mark::Semicolon, Part::InBlock, tokens),
+        _ => read_mark(Mark::Semicolon, tokens),
     }
 }
 
@@ -50,8 +49,8 @@ fn read_jump(tokens: &[Token]) -> Result<(Span, &[Token]), TokenFault<'_>>
     ensures reads { Gives (λ x. (x.0, x.1.now)) result (readers.jump_at tokens.now) }
     ensures shorter { IfOk result (λ x. length x.1.now < length tokens.now) }
 {
-    let (_, rest) = read_keyword(Keyword::Goto, Part::InBlock, tokens)?;
-    let (target, rest) = read_block_word(Part::InBlock, rest)?;
+    let (_, rest) = read_keyword(Keyword::Goto, tokens)?;
+    let (target, rest) = read_block_word(rest)?;
     let (_, rest) = read_jump_end(rest)?;
     Ok((target, rest))
 }
@@ -61,13 +60,13 @@ fn read_if(tokens: &[Token]) -> Result<(EndText, &[Token]), TokenFault<'_>>
     ensures reads { Gives (λ x. (x.0, x.1.now)) result (readers.if_at tokens.now) }
     ensures shorter { IfOk result (λ x. length x.1.now < length tokens.now) }
 {
-    let (_, rest) = read_mark(Mark::Open, Part::InBlock, tokens)?;
+    let (_, rest) = read_mark(Mark::Open, tokens)?;
     let (left, rest) = read!(read_operand(rest));
     let (code, rest) = read_comparison(rest)?;
     let (right, rest) = read!(read_operand(rest));
-    let (_, rest) = read_mark(Mark::Close, Part::InBlock, rest)?;
+    let (_, rest) = read_mark(Mark::Close, rest)?;
     let (then, rest) = read_jump(rest)?;
-    let (_, rest) = read_keyword(Keyword::Else, Part::InBlock, rest)?;
+    let (_, rest) = read_keyword(Keyword::Else, rest)?;
     let (otherwise, rest) = read_jump(rest)?;
     Ok((EndText::If(code, left, right, then, otherwise), rest))
 }
@@ -78,7 +77,7 @@ fn read_return(tokens: &[Token]) -> Result<(EndText, &[Token]), TokenFault<'_>>
     ensures shorter { IfOk result (λ x. length x.1.now < length tokens.now) }
 {
     let (operand, rest) = read!(read_operand(tokens));
-    let (_, rest) = read_mark(Mark::Semicolon, Part::InBlock, rest)?;
+    let (_, rest) = read_mark(Mark::Semicolon, rest)?;
     Ok((EndText::Return(operand), rest))
 }
 

@@ -6,8 +6,8 @@ ghost use Rattle.gim_statements.specs.ItemReaders as readers;
 
 use crate::operand::read_operand;
 use crate::right::read_right;
-use gim_marks::{read_block_word, read_mark, read_name};
-use gim_text::{ArgText, ItemText, Keyword, Mark, Part, Token, TokenFault, TokenStop};
+use gim_text::{ArgText, ItemText, Keyword, Mark, Token, TokenFault, TokenStop};
+use gim_words::{read_block_word, read_mark, read_name};
 use pm_items::Items;
 use pm_places::Span;
 use std::alloc::Global;
@@ -17,8 +17,8 @@ fn read_arg(tokens: &[Token]) -> Result<(ArgText, &[Token]), TokenFault<'_>>
     ensures reads { Gives (λ x. (x.0, x.1.now)) result (readers.arg_at tokens.now) }
     ensures shorter { IfOk result (λ x. length x.1.now < length tokens.now) }
 {
-    let (from, rest) = read_block_word(Part::InBlock, tokens)?;
-    let (_, rest) = read_mark(Mark::Colon, Part::InBlock, rest)?;
+    let (from, rest) = read_block_word(tokens)?;
+    let (_, rest) = read_mark(Mark::Colon, rest)?;
     let (operand, rest) = read!(read_operand(rest));
     Ok((ArgText { from, operand }, rest))
 }
@@ -59,10 +59,10 @@ fn read_phi(
     ensures reads { GivesInMemory (λ x. (x.0, x.1.now)) result (readers.phi_at name tokens.now) }
     ensures shorter { IfOk result (λ x. length x.1.now < length tokens.now) }
 {
-    let (_, rest) = read_mark(Mark::Open, Part::InBlock, tokens)?;
+    let (_, rest) = read_mark(Mark::Open, tokens)?;
     let (args, rest) = read!(read_args(alloc, rest));
-    let (_, rest) = read_mark(Mark::Close, Part::InBlock, rest)?;
-    let (_, rest) = read_mark(Mark::Semicolon, Part::InBlock, rest)?;
+    let (_, rest) = read_mark(Mark::Close, rest)?;
+    let (_, rest) = read_mark(Mark::Semicolon, rest)?;
     Ok((ItemText::Phi(name, args), rest))
 }
 
@@ -72,7 +72,7 @@ fn read_statement(name: Span, tokens: &[Token]) -> Result<(ItemText, &[Token]), 
     ensures shorter { IfOk result (λ x. length x.1.now < length tokens.now) }
 {
     let (right, rest) = read!(read_right(tokens));
-    let (_, rest) = read_mark(Mark::Semicolon, Part::InBlock, rest)?;
+    let (_, rest) = read_mark(Mark::Semicolon, rest)?;
     Ok((ItemText::Stmt(name, right), rest))
 }
 
@@ -84,8 +84,8 @@ pub(crate) fn read_item(
     ensures reads { GivesInMemory (λ x. (x.0, x.1.now)) result (readers.item_at tokens.now) }
     ensures shorter { IfOk result (λ x. length x.1.now < length tokens.now) }
 {
-    let (name, rest) = read_name(Part::InBlock, tokens)?;
-    let (_, rest) = read_mark(Mark::Assign, Part::InBlock, rest)?;
+    let (name, rest) = read_name(tokens)?;
+    let (_, rest) = read_mark(Mark::Assign, rest)?;
     match rest {
         [Token::Keyword(Keyword::Phi, _), rest @ ..] => read_phi(alloc, name, rest),
         _ => read_statement(name, rest),

@@ -3,14 +3,12 @@
 ghost use Rattle.std.specs.Prelude.{◌≡◌, ◌+◌, ◌<◌, ◌≤◌, length, IfOk};
 ghost use Rattle.grammar.specs.Gives.{Gives};
 ghost use Rattle.grammar.specs.Reading.{meant_at};
-ghost use Rattle.gim_text.specs.declared.fault.Part.TheVariants.{InBlock};
 ghost use Rattle.gim_statements.specs.Words as words;
 ghost use Rattle.gim_statements.specs.OperandReaders as readers;
 
 use crate::words::literal_number;
-use gim_marks::{read_keyword, read_mark, read_plain_number};
-use gim_text::{Keyword, LiteralText, LiteralType, Mark, OperandText, Part, Token, TokenFault};
-use gim_types::read_type;
+use gim_text::{Keyword, LiteralText, LiteralType, Mark, OperandText, Token, TokenFault};
+use gim_words::{read_keyword, read_mark, read_plain_number, read_type};
 use grammar::Fault;
 use pm_places::Span;
 use pm_wide::IntType;
@@ -25,7 +23,7 @@ struct Constant {
 
 /// What a number says of its type, and its place.
 fn read_number(tokens: &[Token]) -> Result<((LiteralType, Span), &[Token]), TokenFault<'_>>
-    ensures reads { Gives (λ x. (x.0, x.1.now)) result (meant_at words.literal_number InBlock tokens.now) }
+    ensures reads { Gives (λ x. (x.0, x.1.now)) result (meant_at words.literal_number tt tokens.now) }
     ensures shorter { IfOk result (λ x. length x.1.now < length tokens.now) }
 {
     if let [first, rest @ ..] = tokens {
@@ -34,7 +32,7 @@ fn read_number(tokens: &[Token]) -> Result<((LiteralType, Span), &[Token]), Toke
         }
     }
     Err(Fault {
-        kind: Part::InBlock,
+        kind: (),
         rest: tokens,
     })
 }
@@ -71,7 +69,7 @@ fn read_written_number(
         [Token::Mark(Mark::Minus, _), rest @ ..] => (true, rest),
         _ => (false, tokens),
     };
-    let (number, rest) = read_plain_number(Part::InBlock, rest)?;
+    let (number, rest) = read_plain_number(rest)?;
     Ok((
         Constant {
             ty: LiteralType::Written(ty),
@@ -87,9 +85,9 @@ fn read_written(tokens: &[Token]) -> Result<(Constant, &[Token]), TokenFault<'_>
     ensures reads { Gives (λ x. (x.0, x.1.now)) result (readers.written_at tokens.now) }
     ensures shorter { IfOk result (λ x. length x.1.now < length tokens.now) }
 {
-    let (_, rest) = read_mark(Mark::Open, Part::InBlock, tokens)?;
-    let (ty, rest) = read!(read_type(Part::InBlock, rest));
-    let (_, rest) = read_mark(Mark::Close, Part::InBlock, rest)?;
+    let (_, rest) = read_mark(Mark::Open, tokens)?;
+    let (ty, rest) = read!(read_type(rest));
+    let (_, rest) = read_mark(Mark::Close, rest)?;
     read_written_number(ty, rest)
 }
 
@@ -110,7 +108,7 @@ fn read_literal(tokens: &[Token]) -> Result<(OperandText, &[Token]), TokenFault<
 {
     let [first, ..] = tokens else {
         return Err(Fault {
-            kind: Part::InBlock,
+            kind: (),
             rest: tokens,
         });
     };
@@ -132,8 +130,8 @@ fn read_named(name: Span, tokens: &[Token]) -> Result<(OperandText, &[Token]), T
 {
     match tokens {
         [Token::Mark(Mark::Open, _), rest @ ..] => {
-            let (_, rest) = read_keyword(Keyword::Default, Part::InBlock, rest)?;
-            let (_, rest) = read_mark(Mark::Close, Part::InBlock, rest)?;
+            let (_, rest) = read_keyword(Keyword::Default, rest)?;
+            let (_, rest) = read_mark(Mark::Close, rest)?;
             Ok((OperandText::Default(name), rest))
         }
         _ => Ok((OperandText::Name(name), tokens)),

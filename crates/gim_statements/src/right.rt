@@ -6,9 +6,8 @@ ghost use Rattle.gim_statements.specs.RightReaders as readers;
 
 use crate::operand::read_operand;
 use crate::words::infix_code;
-use gim_marks::read_mark;
-use gim_text::{Keyword, Mark, OperandText, Part, RightForm, RightText, Token, TokenFault};
-use gim_types::read_type;
+use gim_text::{Keyword, Mark, OperandText, RightForm, RightText, Token, TokenFault};
+use gim_words::{read_mark, read_type};
 use grammar::Fault;
 use pm_ops::Code;
 
@@ -26,8 +25,8 @@ fn read_cast(tokens: &[Token]) -> Result<(RightForm, &[Token]), TokenFault<'_>>
     ensures reads { Gives (λ x. (x.0, x.1.now)) result (readers.cast_at tokens.now) }
     ensures shorter { IfOk result (λ x. length x.1.now < length tokens.now) }
 {
-    let (ty, rest) = read!(read_type(Part::InBlock, tokens));
-    let (_, rest) = read_mark(Mark::Close, Part::InBlock, rest)?;
+    let (ty, rest) = read!(read_type(tokens));
+    let (_, rest) = read_mark(Mark::Close, rest)?;
     let (operand, rest) = read!(read_operand(rest));
     Ok((RightForm::Cast(ty, operand), rest))
 }
@@ -37,11 +36,11 @@ fn read_call(code: Code, tokens: &[Token]) -> Result<(RightForm, &[Token]), Toke
     ensures reads { Gives (λ x. (x.0, x.1.now)) result (readers.call_at code tokens.now) }
     ensures shorter { IfOk result (λ x. length x.1.now < length tokens.now) }
 {
-    let (_, rest) = read_mark(Mark::Open, Part::InBlock, tokens)?;
+    let (_, rest) = read_mark(Mark::Open, tokens)?;
     let (left, rest) = read!(read_operand(rest));
-    let (_, rest) = read_mark(Mark::Comma, Part::InBlock, rest)?;
+    let (_, rest) = read_mark(Mark::Comma, rest)?;
     let (right, rest) = read!(read_operand(rest));
-    let (_, rest) = read_mark(Mark::Close, Part::InBlock, rest)?;
+    let (_, rest) = read_mark(Mark::Close, rest)?;
     Ok((RightForm::Binary(code, left, right), rest))
 }
 
@@ -54,7 +53,7 @@ fn read_choice(
     ensures shorter { IfOk result (λ x. length x.1.now < length tokens.now) }
 {
     let (then, rest) = read!(read_operand(tokens));
-    let (_, rest) = read_mark(Mark::Colon, Part::InBlock, rest)?;
+    let (_, rest) = read_mark(Mark::Colon, rest)?;
     let (otherwise, rest) = read!(read_operand(rest));
     Ok((RightForm::Choice(condition, then, otherwise), rest))
 }
@@ -114,7 +113,7 @@ pub(crate) fn read_right(tokens: &[Token]) -> Result<(RightText, &[Token]), Toke
 {
     let [first, ..] = tokens else {
         return Err(Fault {
-            kind: Part::InBlock,
+            kind: (),
             rest: tokens,
         });
     };

@@ -1,7 +1,7 @@
 use crate::read_block;
 use gim_text::{
     ArgText, BlockText, EndText, ItemText, Keyword, LiteralText, LiteralType, Mark, NumberKind,
-    OperandText, Part, RightForm, RightText, Token, TokenStop, TypeWord,
+    OperandText, RightForm, RightText, Token, TokenStop, TypeWord,
 };
 use grammar::{Stop, whole_in_memory};
 use pm_ops::Code;
@@ -64,7 +64,7 @@ fn tokens_of(alloc: Global, text: &str) -> Result<Vec<Token>, AllocError> {
 
 /// The block that the tokens spell, all of them.
 fn read_whole(alloc: Global, tokens: &[Token]) -> Result<BlockText, TokenStop<'_>> {
-    whole_in_memory(read_block(alloc, tokens), Part::InBlock)
+    whole_in_memory(read_block(alloc, tokens), ())
 }
 
 /// The form of the right side of the only statement of a block; None also where it doesn't start at its

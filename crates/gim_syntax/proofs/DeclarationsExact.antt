@@ -13,15 +13,13 @@ use Rattle.gim_text.specs.declared.token.Token.TheVariants as tokens
 use Rattle.gim_text.specs.declared.token.TypeWord.{TypeWord}
 use Rattle.gim_text.specs.declared.token.Mark.TheVariants as marks
 use Rattle.gim_text.specs.declared.token.Keyword.TheVariants as keywords
-use Rattle.gim_text.specs.declared.fault.Part.{Part}
-use Rattle.gim_text.specs.declared.fault.Part.TheVariants.{Outside}
 use Rattle.gim_text.specs.declared.tree.DeclText.{DeclText}
-use Rattle.gim_marks.specs.Readers.{mark_at, name_at}
-use Rattle.gim_marks.proofs.Parts.{Reads, seen_by, after_free, after_token, in_words}
-use Rattle.gim_marks.proofs.MarksExact.{some_mark, mark_reads, name_reads}
-use Rattle.gim_types.specs.Grammar.{SpellsType, GoesOnType}
-use Rattle.gim_types.specs.Readers.{type_at}
-use Rattle.gim_types.proofs.TypesExact.{type_not_empty, type_begins}
+use Rattle.gim_words.specs.TokenReaders.{mark_at, name_at}
+use Rattle.grammar.proofs.EveryInput.{Reads, seen_by, after_free, after_token, in_words}
+use Rattle.gim_words.proofs.TokensExact.{some_mark, mark_reads, name_reads}
+use Rattle.gim_words.specs.Types.{SpellsType, GoesOnType}
+use Rattle.gim_words.specs.TypeReaders.{type_at}
+use Rattle.gim_words.proofs.TypesExact.{type_not_empty, type_begins}
 use Rattle.gim_syntax.specs.Grammar.{SpellsTyped, SpellsDecl, SpellsFurther, SpellsParams}
 use Rattle.gim_syntax.specs.Readers.{typed_at, decl_at, begins_type, decls_at, further_at, is_comma, and_item, more_at, param_list_at, params_at}
 use Rattle.gim_syntax.proofs.Items.{Added, items_added, items_read}
@@ -45,8 +43,8 @@ typed_reads =
     in_words (Then SpellsType Ident) SpellsTyped Never typed_at to back
     (apart_before SpellsType Ident GoesOnType Never
     (λ ty decl m. not_empty ty decl m) (λ ty decl t v m. apart ty decl t v m)
-    (type_at Outside) (λ ty. name_at Outside ty.1 >>= λ ident. Ok (decl_of ty.0 ident.0, ident.1)) type_reads
-    (λ ty. seen_by (decl_of ty) (Meant identifier) Never (name_at Outside) (name_reads Outside Never)))
+    (type_at) (λ ty. name_at ty.1 >>= λ ident. Ok (decl_of ty.0 ident.0, ident.1)) type_reads
+    (λ ty. seen_by (decl_of ty) (Meant identifier) Never (name_at) (name_reads Never)))
   where
     not_empty : (ty : Ty) (decl : DeclText) → Ident ty decl [] → ⊥
     not_empty ty decl (name, (t, is, one), same) = cc
@@ -100,8 +98,8 @@ unfolding DeclParts constantly
 decl_reads =
     in_words DeclParts SpellsDecl Never decl_at to back
     (after_free SpellsTyped (λ decl. Mapped (constantly decl) (Meant (mark marks.Semicolon))) Never
-    typed_at (λ decl. mark_at marks.Semicolon Outside decl.1 >>= λ semicolon. Ok (decl.0, semicolon.1)) typed_reads
-    (λ decl. seen_by (constantly decl) (Meant (mark marks.Semicolon)) Never (mark_at marks.Semicolon Outside) (mark_reads marks.Semicolon Outside Never)))
+    typed_at (λ decl. mark_at marks.Semicolon decl.1 >>= λ semicolon. Ok (decl.0, semicolon.1)) typed_reads
+    (λ decl. seen_by (constantly decl) (Meant (mark marks.Semicolon)) Never (mark_at marks.Semicolon) (mark_reads marks.Semicolon Never)))
   where
     to : (decl : DeclText) (w : List Token) → DeclParts decl w → SpellsDecl decl w
     to decl w (first, u, v, typed, (at, meant, same), cut) = subst (λ d. SpellsDecl d w) same (u, v, typed, (at, meant), cut)
@@ -135,7 +133,7 @@ further_reads : Reads SpellsFurther Never further_at
 further_reads =
     in_words (Then (Meant (mark marks.Comma)) (λ at. SpellsTyped)) SpellsFurther Never further_at
     (λ decl w (at, u, v, meant, typed, cut). (u, v, (at, meant), typed, cut)) (λ decl w (u, v, (at, meant), typed, cut). (at, u, v, meant, typed, cut))
-    (after_token (mark marks.Comma) Outside (some_mark marks.Comma) (λ at. SpellsTyped) Never (λ comma. typed_at comma.1) (λ at. typed_reads))
+    (after_token (mark marks.Comma) tt (some_mark marks.Comma) (λ at. SpellsTyped) Never (λ comma. typed_at comma.1) (λ at. typed_reads))
 
 further_not_empty : (decl : DeclText) → SpellsFurther decl [] → ⊥
 further_not_empty decl (u, v, (at, meant), typed, cut) = takes_token (mark marks.Comma) at u v meant cut
@@ -173,7 +171,7 @@ void_is (tokens.Keyword keywords.Void place) at e = cc
 void_is t at e = absurd (cc)
 
 -- what begins with `void`
-void_exact : (at : Span) (rest : List Token) → IsExact {E = Part} SpellsParams GoesOnParams (tokens.Keyword keywords.Void at ∷ rest) (Ok ([], rest))
+void_exact : (at : Span) (rest : List Token) → IsExact {E = Unit {0}} SpellsParams GoesOnParams (tokens.Keyword keywords.Void at ∷ rest) (Ok ([], rest))
 void_exact at rest =
     parts.from_token SpellsParams (Nothing []) GoesOnParams (tokens.Keyword keywords.Void at) rest (Ok ([], rest)) to back (λ x s. tt) (parts.nothing [] GoesOnParams rest)
   where
@@ -207,7 +205,7 @@ typed_exact word at rest =
 
 -- what begins with neither
 none_exact : (input : List Token) → ((at : Span) (rest : List Token) → input ≡ tokens.Keyword keywords.Void at ∷ rest → ⊥)
-    → ((word : TypeWord) (at : Span) (rest : List Token) → input ≡ tokens.TypeWord word at ∷ rest → ⊥) → IsExact {E = Part} SpellsParams GoesOnParams input (Ok ([], input))
+    → ((word : TypeWord) (at : Span) (rest : List Token) → input ≡ tokens.TypeWord word at ∷ rest → ⊥) → IsExact {E = Unit {0}} SpellsParams GoesOnParams input (Ok ([], input))
 none_exact input no_void no_type = parts.skipped SpellsParams GoesOnParams [] (inl refl) only_none input refuses
   where
     no_word : (t : Token) (left : List Token) → input ≡ t ∷ left → begins_type t ≡ true → ⊥

@@ -2,7 +2,7 @@
 use Rattle.std.proofs.Common.{refl}
 use Rattle.grammar.proofs.Sequence.{Never}
 use Rattle.gim_text.specs.declared.token.Token.{Token}
-use Rattle.gim_marks.proofs.Parts.{Reads}
+use Rattle.grammar.proofs.EveryInput.{Reads}
 use Rattle.gim_syntax.specs.Grammar.{SpellsFunction, SpellsFile}
 use Rattle.gim_syntax.specs.Readers.{any_token, function_at, file_at}
 use Rattle.gim_syntax.proofs.Items.{items_read}

@@ -11,16 +11,15 @@ use Rattle.gim_text.specs.declared.token.Token.{Token}
 use Rattle.gim_text.specs.declared.token.Token.TheVariants as tokens
 use Rattle.gim_text.specs.declared.token.Mark.TheVariants as marks
 use Rattle.gim_text.specs.declared.token.Keyword.TheVariants as keywords
-use Rattle.gim_text.specs.declared.fault.Part.TheVariants.{Outside}
 use Rattle.gim_text.specs.declared.tree.DeclText.{DeclText}
 use Rattle.gim_text.specs.declared.tree.BlockText.{BlockText}
 use Rattle.gim_text.specs.declared.tree.FunctionText.{FunctionText}
-use Rattle.gim_marks.specs.Readers.{mark_at, keyword_at, name_at}
-use Rattle.gim_marks.proofs.Parts.{Reads, seen_by, after_free, after_token, in_words}
-use Rattle.gim_marks.proofs.MarksExact.{some_mark, some_keyword, mark_reads, name_reads}
-use Rattle.gim_types.specs.Grammar.{SpellsType, GoesOnType}
-use Rattle.gim_types.specs.Readers.{type_at}
-use Rattle.gim_types.proofs.TypesExact.{type_not_empty}
+use Rattle.gim_words.specs.TokenReaders.{mark_at, keyword_at, name_at}
+use Rattle.grammar.proofs.EveryInput.{Reads, seen_by, after_free, after_token, in_words}
+use Rattle.gim_words.proofs.TokensExact.{some_mark, some_keyword, mark_reads, name_reads}
+use Rattle.gim_words.specs.Types.{SpellsType, GoesOnType}
+use Rattle.gim_words.specs.TypeReaders.{type_at}
+use Rattle.gim_words.proofs.TypesExact.{type_not_empty}
 use Rattle.gim_statements.specs.Grammar.{SpellsBlock, GoesOnBlock}
 use Rattle.gim_statements.specs.BlockReaders.{block_at}
 use Rattle.gim_statements.proofs.BlocksExact.{block_reads}
@@ -50,12 +49,12 @@ AfterResult result = Then (Meant (keyword keywords.Gimple)) (λ gimple. AfterGim
 abbrev HeadParts : Spelling Token Head
 HeadParts = Then SpellsType AfterResult
 
-gimple_then : (result : Ty) → Reads (AfterGimple result) Never (λ input. mark_at marks.Open Outside input >>= λ open_options. options_at open_options.1 >>= λ options. name_at Outside options.1 >>= λ name. Ok (head_of result name.0, name.1))
+gimple_then : (result : Ty) → Reads (AfterGimple result) Never (λ input. mark_at marks.Open input >>= λ open_options. options_at open_options.1 >>= λ options. name_at options.1 >>= λ name. Ok (head_of result name.0, name.1))
 gimple_then result =
-    after_token (mark marks.Open) Outside (some_mark marks.Open) (λ open_options. Then Options (λ close. AfterOptions result)) Never
-    (λ open_options. options_at open_options.1 >>= λ options. name_at Outside options.1 >>= λ name. Ok (head_of result name.0, name.1))
-    (λ open_options. after_free Options (λ close. AfterOptions result) Never options_at (λ options. name_at Outside options.1 >>= λ name. Ok (head_of result name.0, name.1)) options_reads
-    (λ close. seen_by (head_of result) (Meant identifier) Never (name_at Outside) (name_reads Outside Never)))
+    after_token (mark marks.Open) tt (some_mark marks.Open) (λ open_options. Then Options (λ close. AfterOptions result)) Never
+    (λ open_options. options_at open_options.1 >>= λ options. name_at options.1 >>= λ name. Ok (head_of result name.0, name.1))
+    (λ open_options. after_free Options (λ close. AfterOptions result) Never options_at (λ options. name_at options.1 >>= λ name. Ok (head_of result name.0, name.1)) options_reads
+    (λ close. seen_by (head_of result) (Meant identifier) Never (name_at) (name_reads Never)))
 
 no_type_gimple : (t : Token) (at : Span) → keyword keywords.Gimple t ≡ Some at → ¬ GoesOnType t
 no_type_gimple (tokens.TypeWord word place) at e = absurd (cc)
@@ -65,11 +64,11 @@ head_reads : Reads HeadParts Never head_at
 unfolding head_of
 head_reads =
     apart_before SpellsType AfterResult GoesOnType Never (λ result head m. not_empty result head m) (λ result head t v m. apart result head t v m)
-    (type_at Outside)
-    (λ result. keyword_at keywords.Gimple Outside result.1 >>= λ gimple. mark_at marks.Open Outside gimple.1 >>= λ open_options. options_at open_options.1 >>= λ options. name_at Outside options.1 >>= λ name. Ok (head_of result.0 name.0, name.1))
+    (type_at)
+    (λ result. keyword_at keywords.Gimple result.1 >>= λ gimple. mark_at marks.Open gimple.1 >>= λ open_options. options_at open_options.1 >>= λ options. name_at options.1 >>= λ name. Ok (head_of result.0 name.0, name.1))
     type_reads
-    (λ result. after_token (keyword keywords.Gimple) Outside (some_keyword keywords.Gimple) (λ gimple. AfterGimple result) Never
-    (λ gimple. mark_at marks.Open Outside gimple.1 >>= λ open_options. options_at open_options.1 >>= λ options. name_at Outside options.1 >>= λ name. Ok (head_of result name.0, name.1)) (λ gimple. gimple_then result))
+    (λ result. after_token (keyword keywords.Gimple) tt (some_keyword keywords.Gimple) (λ gimple. AfterGimple result) Never
+    (λ gimple. mark_at marks.Open gimple.1 >>= λ open_options. options_at open_options.1 >>= λ options. name_at options.1 >>= λ name. Ok (head_of result name.0, name.1)) (λ gimple. gimple_then result))
   where
     not_empty : (result : Ty) (head : Head) → AfterResult result head [] → ⊥
     not_empty result head (at, u, v, meant, m, cut) = takes_token (keyword keywords.Gimple) at u v meant cut
@@ -145,11 +144,11 @@ no_params_close t at e = λ impossible. impossible
 params_between_reads : Reads ParamsParts Never params_between_at
 unfolding constantly
 params_between_reads =
-    after_token (mark marks.Open) Outside (some_mark marks.Open) (λ open_params. Then SpellsParams AfterParams) Never
-    (λ open_params. params_at open_params.1 >>= λ params. mark_at marks.Close Outside params.1 >>= λ close_params. Ok (params.0, close_params.1))
+    after_token (mark marks.Open) tt (some_mark marks.Open) (λ open_params. Then SpellsParams AfterParams) Never
+    (λ open_params. params_at open_params.1 >>= λ params. mark_at marks.Close params.1 >>= λ close_params. Ok (params.0, close_params.1))
     (λ open_params. apart_before SpellsParams AfterParams GoesOnParams Never (λ params all m. not_empty params all m) (λ params all t v m. apart params all t v m)
-    params_at (λ params. mark_at marks.Close Outside params.1 >>= λ close_params. Ok (params.0, close_params.1)) params_reads
-    (λ params. seen_by (constantly params) (Meant (mark marks.Close)) Never (mark_at marks.Close Outside) (mark_reads marks.Close Outside Never)))
+    params_at (λ params. mark_at marks.Close params.1 >>= λ close_params. Ok (params.0, close_params.1)) params_reads
+    (λ params. seen_by (constantly params) (Meant (mark marks.Close)) Never (mark_at marks.Close) (mark_reads marks.Close Never)))
   where
     not_empty : (params all : List DeclText) → AfterParams params all [] → ⊥
     not_empty params all (at, (t, is, one), same) = cc
@@ -223,11 +222,11 @@ close_brace_is : (t : Token) (at : Span) → mark marks.CloseBrace t ≡ Some at
 close_brace_is (tokens.Mark marks.CloseBrace place) at e = cc
 close_brace_is t at e = absurd (cc)
 
-decls_then : (decls : List DeclText) → Reads (AfterDecls decls) Never (λ input. blocks_at input >>= λ blocks. mark_at marks.CloseBrace Outside blocks.1 >>= λ close. Ok (body_of decls blocks.0 close.0, close.1))
+decls_then : (decls : List DeclText) → Reads (AfterDecls decls) Never (λ input. blocks_at input >>= λ blocks. mark_at marks.CloseBrace blocks.1 >>= λ close. Ok (body_of decls blocks.0 close.0, close.1))
 decls_then decls =
     apart_before (Many SpellsBlock) (AfterBlocks decls) GoesOnBlocks Never (λ blocks body m. not_empty blocks body m) (λ blocks body t v m. apart blocks body t v m)
-    blocks_at (λ blocks. mark_at marks.CloseBrace Outside blocks.1 >>= λ close. Ok (body_of decls blocks.0 close.0, close.1)) blocks_reads
-    (λ blocks. seen_by (body_of decls blocks) (Meant (mark marks.CloseBrace)) Never (mark_at marks.CloseBrace Outside) (mark_reads marks.CloseBrace Outside Never))
+    blocks_at (λ blocks. mark_at marks.CloseBrace blocks.1 >>= λ close. Ok (body_of decls blocks.0 close.0, close.1)) blocks_reads
+    (λ blocks. seen_by (body_of decls blocks) (Meant (mark marks.CloseBrace)) Never (mark_at marks.CloseBrace) (mark_reads marks.CloseBrace Never))
   where
     not_empty : (blocks : List BlockText) (body : Body) → AfterBlocks decls blocks body [] → ⊥
     not_empty blocks body (at, (t, is, one), same) = cc
@@ -240,10 +239,10 @@ decls_then decls =
 body_reads : Reads BodyParts Never body_at
 unfolding body_of
 body_reads =
-    after_token (mark marks.OpenBrace) Outside (some_mark marks.OpenBrace) (λ open_body. Then (Many SpellsDecl) AfterDecls) Never
-    (λ open_body. decls_at open_body.1 >>= λ decls. blocks_at decls.1 >>= λ blocks. mark_at marks.CloseBrace Outside blocks.1 >>= λ close. Ok (body_of decls.0 blocks.0 close.0, close.1))
+    after_token (mark marks.OpenBrace) tt (some_mark marks.OpenBrace) (λ open_body. Then (Many SpellsDecl) AfterDecls) Never
+    (λ open_body. decls_at open_body.1 >>= λ decls. blocks_at decls.1 >>= λ blocks. mark_at marks.CloseBrace blocks.1 >>= λ close. Ok (body_of decls.0 blocks.0 close.0, close.1))
     (λ open_body. apart_before (Many SpellsDecl) AfterDecls GoesOnType Never (λ decls body m. not_empty decls body m) (λ decls body t v m. apart decls body t v m)
-    decls_at (λ decls. blocks_at decls.1 >>= λ blocks. mark_at marks.CloseBrace Outside blocks.1 >>= λ close. Ok (body_of decls.0 blocks.0 close.0, close.1)) decls_reads decls_then)
+    decls_at (λ decls. blocks_at decls.1 >>= λ blocks. mark_at marks.CloseBrace blocks.1 >>= λ close. Ok (body_of decls.0 blocks.0 close.0, close.1)) decls_reads decls_then)
   where
     not_empty : (decls : List DeclText) (body : Body) → AfterDecls decls body [] → ⊥
     not_empty decls body (blocks, u, v, many, (at, (s, is, one), same), cut) = in_blocks u cut

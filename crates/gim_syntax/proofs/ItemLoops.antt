@@ -6,14 +6,13 @@ use Rattle.grammar.specs.Reading.{Answer}
 use Rattle.grammar.specs.Gives.{StopsAs}
 use Rattle.grammar.proofs.Loops.{StillRuns, runs_on, runs_out, stops_loop}
 use Rattle.gim_text.specs.declared.token.Token.{Token}
-use Rattle.gim_text.specs.declared.fault.Part.{Part}
 use Rattle.gim_syntax.specs.Readers.{and_item, first_is, item_step}
 
 has_first : (begins : Token → Bool) (input : List Token) → first_is begins input ≡ true → 0 < length input
 has_first begins [] e = absurd (cc)
 has_first begins (t ∷ rest) e = omega arith
 
-module _ {A : Type 0} (begins : Token → Bool) (read : List Token → Answer Token Part A) (total : Answer Token Part (List A)) (before : List A) (rest : List Token)
+module _ {A : Type 0} (begins : Token → Bool) (read : List Token → Answer Token (Unit {0}) A) (total : Answer Token (Unit {0}) (List A)) (before : List A) (rest : List Token)
     (still : StillRuns (item_step begins read) total before rest) where
   steps : (b : Bool) → first_is begins rest ≡ b → item_step begins read before rest ≡ (if b then Some (and_item before (read rest)) else None)
   steps b e = ap (λ c. if c then Some (and_item before (read rest)) else None) e
@@ -25,7 +24,7 @@ module _ {A : Type 0} (begins : Token → Bool) (read : List Token → Answer To
       runs_on (item_step begins read) total before rest still now after (steps true begun ∙ ap (λ a. Some a) is) shorter
 
   -- where an item stops
-  pub stops : first_is begins rest ≡ true → (stop : Stop Token Part) → StopsAs stop (and_item before (read rest)) → StopsAs stop total
+  pub stops : first_is begins rest ≡ true → (stop : Stop Token (Unit {0})) → StopsAs stop (and_item before (read rest)) → StopsAs stop total
   stops begun stop stopped =
       stops_loop (item_step begins read) total before rest still stop (and_item before (read rest)) (has_first begins rest begun) (steps true begun) stopped
 

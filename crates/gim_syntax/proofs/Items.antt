@@ -8,26 +8,25 @@ use Rattle.grammar.proofs.Parts as parts
 use Rattle.grammar.proofs.Repetition.{repeated}
 use Rattle.grammar.proofs.Chains.{items_of_steps, steps_of_items}
 use Rattle.gim_text.specs.declared.token.Token.{Token}
-use Rattle.gim_text.specs.declared.fault.Part.{Part}
-use Rattle.gim_marks.proofs.Parts.{Reads}
+use Rattle.grammar.proofs.EveryInput.{Reads}
 use Rattle.gim_syntax.specs.Readers.{and_item, item_step, more_at}
 
 -- the items after those before, which stand in front of the list
 abbrev pub Added : {A : Type 0} → Spelling Token A → List A → Spelling Token (List A)
 Added N before now w = (xs : List _) × (now ≡ before ++ xs) × Many N xs w
 
-module _ {A : Type 0} (N : Spelling Token A) (begins : Token → Bool) (read : List Token → Answer Token Part A) (more_item more : Token → Type 0)
+module _ {A : Type 0} (N : Spelling Token A) (begins : Token → Bool) (read : List Token → Answer Token (Unit {0}) A) (more_item more : Token → Type 0)
     (reads : Reads N more_item read)
     (never_empty : (x : A) → N x [] → ⊥)
     (begun : (x : A) (t : Token) (w : List Token) → N x (t ∷ w) → begins t ≡ true)
     (apart : (t : Token) → begins t ≡ true → ¬ more_item t)
     (within : (t : Token) → more_item t → more t)
     (wide : (t : Token) → begins t ≡ true → more t) where
-  some_is : (a b : Answer Token Part (List A)) → Some a ≡ Some b → a ≡ b
+  some_is : (a b : Answer Token (Unit {0}) (List A)) → Some a ≡ Some b → a ≡ b
   some_is a b e = cc
 
   -- where an item is looked for one begins, and it is what is read
-  looked_for : (b : Bool) (before : List A) (input : List Token) (answer : Answer Token Part (List A)) → (if b then Some (and_item before (read input)) else None) ≡ Some answer
+  looked_for : (b : Bool) (before : List A) (input : List Token) (answer : Answer Token (Unit {0}) (List A)) → (if b then Some (and_item before (read input)) else None) ≡ Some answer
       → (b ≡ true) × (and_item before (read input) ≡ answer)
   looked_for true before input answer e = (refl, some_is (and_item before (read input)) answer e)
   looked_for false before input answer e = absurd (cc)
@@ -42,7 +41,7 @@ module _ {A : Type 0} (N : Spelling Token A) (begins : Token → Bool) (read : L
       (λ now w s. (s.0, s.1, sym s.2)) (λ now w s. (s.0, s.1, sym s.2))
       (parts.mapped (λ x. before ++ x ∷ []) N more_item input (read input) (reads.exact input))
 
-  item_is : (before : List A) (input : List Token) (answer : Answer Token Part (List A)) → item_step begins read before input ≡ Some answer → IsExact (Item N before) more_item input answer
+  item_is : (before : List A) (input : List Token) (answer : Answer Token (Unit {0}) (List A)) → item_step begins read before input ≡ Some answer → IsExact (Item N before) more_item input answer
   item_is before [] answer e = absurd (cc)
   item_is before (t ∷ rest) answer e = subst (λ a. IsExact (Item N before) more_item (t ∷ rest) a) (looked_for (begins t) before (t ∷ rest) answer e).1 (one_item before (t ∷ rest))
 

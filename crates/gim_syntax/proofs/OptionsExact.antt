@@ -11,11 +11,10 @@ use Rattle.pm_places.specs.declared.span.Span.{Span}
 use Rattle.gim_text.specs.declared.token.Token.{Token}
 use Rattle.gim_text.specs.declared.token.Token.TheVariants as tokens
 use Rattle.gim_text.specs.declared.token.Mark.TheVariants as marks
-use Rattle.gim_text.specs.declared.fault.Part.TheVariants.{Outside, WithoutSsa}
-use Rattle.gim_marks.specs.Grammar.{IsNoParenthesis, IsBalanced, none_left, further, paired, Closing}
-use Rattle.gim_marks.specs.Readers.{closing_at}
-use Rattle.gim_marks.proofs.Parts.{Reads, in_words}
-use Rattle.gim_marks.proofs.BalancedExact.{closing_reads}
+use Rattle.gim_words.specs.Parentheses.{IsNoParenthesis, IsBalanced, none_left, further, paired, Closing}
+use Rattle.gim_words.specs.TokenReaders.{closing_at}
+use Rattle.grammar.proofs.EveryInput.{Reads, in_words}
+use Rattle.gim_words.proofs.BalancedExact.{closing_reads}
 use Rattle.gim_statements.specs.Grammar.{◌▸◌}
 use Rattle.gim_syntax.specs.Grammar.{HoldsSsa}
 use Rattle.gim_syntax.specs.Readers.{ssa_within, options_at}
@@ -48,24 +47,24 @@ some_list (suc depth) =
     let inner = some_list depth in
     record { value = inner.value; after = tokens.Mark marks.Close somewhere ∷ inner.after; spelled = inner.spelled }
 
-list_exact : (depth : ℕ) (input : List Token) → IsExact (Lists depth) Never input (ssa_within depth input >>= λ ssa. closing_at Outside ssa.1)
+list_exact : (depth : ℕ) (input : List Token) → IsExact (Lists depth) Never input (ssa_within depth input >>= λ ssa. closing_at ssa.1)
 unfolding Lists
-list_exact depth [] = parts.refused (Lists depth) Never Outside (some_list depth) [] (λ x none far. none) (λ t rest e. absurd (cc))
+list_exact depth [] = parts.refused (Lists depth) Never tt (some_list depth) [] (λ x none far. none) (λ t rest e. absurd (cc))
 list_exact depth (tokens.Mark marks.Open at ∷ rest) =
-    parts.from_token (Lists depth) (Lists (suc depth)) Never (tokens.Mark marks.Open at) rest (ssa_within (suc depth) rest >>= λ ssa. closing_at Outside ssa.1)
+    parts.from_token (Lists depth) (Lists (suc depth)) Never (tokens.Mark marks.Open at) rest (ssa_within (suc depth) rest >>= λ ssa. closing_at ssa.1)
     (λ x w s. s) (λ x w s. s) (λ x s. s) (list_exact (suc depth) rest)
 list_exact zero (tokens.Mark marks.Close at ∷ rest) =
-    parts.refused (Lists zero) Never WithoutSsa (some_list zero) (tokens.Mark marks.Close at ∷ rest) (λ x none far. none) no_close
+    parts.refused (Lists zero) Never tt (some_list zero) (tokens.Mark marks.Close at ∷ rest) (λ x none far. none) no_close
   where
     no_close : (t : Token) (left : List Token) → tokens.Mark marks.Close at ∷ rest ≡ t ∷ left → (x : Span) (w : List Token) → Lists zero x (t ∷ w) → ⊥
     no_close t left e x w s = subst (λ h. Lists zero x (h ∷ w)) (sym (parts.same_head (tokens.Mark marks.Close at) t rest left e)) s
 list_exact (suc depth) (tokens.Mark marks.Close at ∷ rest) =
-    parts.from_token (Lists (suc depth)) (Lists depth) Never (tokens.Mark marks.Close at) rest (ssa_within depth rest >>= λ ssa. closing_at Outside ssa.1)
+    parts.from_token (Lists (suc depth)) (Lists depth) Never (tokens.Mark marks.Close at) rest (ssa_within depth rest >>= λ ssa. closing_at ssa.1)
     (λ x w s. s) (λ x w s. s) (λ x s. s) (list_exact depth rest)
 list_exact zero (tokens.Ssa at ∷ rest) =
-    parts.from_token (Lists zero) Closing Never (tokens.Ssa at) rest (closing_at Outside rest) (λ x w s. s) (λ x w s. s) (λ x s. s) ((closing_reads Outside).exact rest)
+    parts.from_token (Lists zero) Closing Never (tokens.Ssa at) rest (closing_at rest) (λ x w s. s) (λ x w s. s) (λ x s. s) ((closing_reads).exact rest)
 list_exact depth (t ∷ rest) =
-    parts.from_token (Lists depth) (Lists depth) Never t rest (ssa_within depth rest >>= λ ssa. closing_at Outside ssa.1) (λ x w s. s) (λ x w s. s) (λ x s. s) (list_exact depth rest)
+    parts.from_token (Lists depth) (Lists depth) Never t rest (ssa_within depth rest >>= λ ssa. closing_at ssa.1) (λ x w s. s) (λ x w s. s) (λ x s. s) (list_exact depth rest)
 
 -- from what is read token by token to the list
 

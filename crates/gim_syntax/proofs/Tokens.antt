@@ -5,18 +5,16 @@ use Rattle.grammar.specs.Reading.{Answer, ◌>>=◌}
 use Rattle.grammar.specs.Exact.{IsApart}
 use Rattle.pm_places.specs.declared.span.Span.{Span}
 use Rattle.gim_text.specs.declared.token.Token.{Token}
-use Rattle.gim_text.specs.declared.fault.Part.{Part}
-use Rattle.gim_text.specs.declared.fault.Part.TheVariants.{Outside}
-use Rattle.gim_types.specs.Grammar.{SpellsType, GoesOnType}
-use Rattle.gim_types.specs.Readers.{type_at}
-use Rattle.gim_types.proofs.TypesExact.{some_type, type_exact}
-use Rattle.gim_marks.proofs.Parts.{Reads, in_sequence}
+use Rattle.gim_words.specs.Types.{SpellsType, GoesOnType}
+use Rattle.gim_words.specs.TypeReaders.{type_at}
+use Rattle.gim_words.proofs.TypesExact.{some_type, type_exact}
+use Rattle.grammar.proofs.EveryInput.{Reads, in_sequence}
 
 pub somewhere : Span
 somewhere = record { from = 0; to = 0 }
 
-pub type_reads : Reads SpellsType GoesOnType (type_at Outside)
-type_reads = record { some = some_type; exact = λ input. type_exact Outside input }
+pub type_reads : Reads SpellsType GoesOnType (type_at)
+type_reads = record { some = some_type; exact = λ input. type_exact input }
 
 -- a sequence whose first part is a token takes one, and begins with it
 pub takes_token : {A : Type 0} (meaning : Token → Option A) (x : A) (u v : List Token) → Meant meaning x u → [] ≡ u ++ v → ⊥
@@ -34,7 +32,7 @@ begins_with meaning x first w u v (t, is, one) cut =
 -- a part before one that takes a token, which does not go on the first
 pub apart_before : {A B : Type 0} (N : Spelling Token A) (M : A → Spelling Token B) (more_first more : Token → Type 0)
     → ((x : A) (y : B) → M x y [] → ⊥) → ((x : A) (y : B) (t : Token) (v : List Token) → M x y (t ∷ v) → ¬ more_first t)
-    → (read : List Token → Answer Token Part A) (next : A × List Token → Answer Token Part B) → Reads N more_first read → ((x : A) → Reads (M x) more (λ rest. next (x, rest)))
+    → (read : List Token → Answer Token (Unit {0}) A) (next : A × List Token → Answer Token (Unit {0}) B) → Reads N more_first read → ((x : A) → Reads (M x) more (λ rest. next (x, rest)))
     → Reads (Then N M) more (λ input. read input >>= next)
 apart_before {A = A} {B = B} N M more_first more never_empty apart read next first second =
     in_sequence N M more_first more far read next first second

@@ -11,8 +11,8 @@ use Rattle.gim_text.specs.declared.token.Keyword.TheVariants as keywords
 use Rattle.gim_text.specs.declared.tree.DeclText.{DeclText}
 use Rattle.gim_text.specs.declared.tree.BlockText.{BlockText}
 use Rattle.gim_text.specs.declared.tree.FunctionText.{FunctionText}
-use Rattle.gim_marks.specs.Grammar.{IsBalanced}
-use Rattle.gim_types.specs.Grammar.{SpellsType}
+use Rattle.gim_words.specs.Parentheses.{IsBalanced}
+use Rattle.gim_words.specs.Types.{SpellsType}
 use Rattle.gim_statements.specs.Grammar.{◌▸◌, AMark, AKeyword, SpellsBlock}
 
 -- type ident

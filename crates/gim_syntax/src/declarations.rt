@@ -4,9 +4,8 @@ ghost use Rattle.std.specs.Prelude.{◌≡◌, ◌<◌, ◌≤◌, length, IfOk}
 ghost use Rattle.grammar.specs.Gives.{GivesInMemory};
 ghost use Rattle.gim_syntax.specs.Readers.{and_item, first_is, begins_type, is_comma, typed_at, decl_at, decls_at, further_at, param_list_at, params_at};
 
-use gim_marks::{read_mark, read_name};
-use gim_text::{DeclText, Keyword, Mark, Part, Token, TokenStop};
-use gim_types::read_type;
+use gim_text::{DeclText, Keyword, Mark, Token, TokenStop};
+use gim_words::{read_mark, read_name, read_type};
 use grammar::Stop;
 use pm_items::Items;
 use std::alloc::Global;
@@ -20,11 +19,11 @@ fn take_typed<'a>(
     ensures shorter { IfOk result (λ x. length x.now < length tokens.now) }
 {
     // A result with an `IntType` beside a slice is matched: the borrow checker has no rule for `?` on it.
-    let (ty, rest) = match read_type(Part::Outside, tokens) {
+    let (ty, rest) = match read_type(tokens) {
         Ok(read) => read,
         Err(fault) => return Err(Stop::Fault(fault)),
     };
-    let (ident, rest) = read_name(Part::Outside, rest)?;
+    let (ident, rest) = read_name(rest)?;
     decls.push(DeclText { ty, ident })?;
     Ok(rest)
 }
@@ -38,7 +37,7 @@ fn take_decl<'a>(
     ensures shorter { IfOk result (λ x. length x.now < length tokens.now) }
 {
     let rest = take_typed(decls, tokens)?;
-    let (_, rest) = read_mark(Mark::Semicolon, Part::Outside, rest)?;
+    let (_, rest) = read_mark(Mark::Semicolon, rest)?;
     Ok(rest)
 }
 
@@ -76,7 +75,7 @@ fn take_further<'a>(
     ensures reads { GivesInMemory (λ x. (params.new, x.now)) result (and_item params.old (further_at tokens.now)) }
     ensures shorter { IfOk result (λ x. length x.now < length tokens.now) }
 {
-    let (_, rest) = read_mark(Mark::Comma, Part::Outside, tokens)?;
+    let (_, rest) = read_mark(Mark::Comma, tokens)?;
     take_typed(params, rest)
 }
 

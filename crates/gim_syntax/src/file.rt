@@ -3,13 +3,12 @@
 ghost use Rattle.std.specs.Prelude.{◌≡◌, List, ◌≤◌, length, IfOk, IfErr};
 ghost use Rattle.grammar.specs.Gives.{GivesInMemory};
 ghost use Rattle.grammar.specs.Whole.{StopsFirst, whole_of};
-ghost use Rattle.gim_text.specs.declared.fault.Part.TheVariants.{Outside};
 ghost use Rattle.gim_text.specs.declared.tree.FunctionText.{FunctionText};
 ghost use Rattle.gim_syntax.specs.Grammar.{SpellsFile};
 ghost use Rattle.gim_syntax.specs.Readers.{first_is, any_token, file_at};
 
 use crate::function::take_function;
-use gim_text::{FunctionText, Part, Token, TokenStop};
+use gim_text::{FunctionText, Token, TokenStop};
 use grammar::whole_in_memory;
 use pm_items::Items;
 use std::alloc::Global;
@@ -49,7 +48,7 @@ pub fn parse(alloc: Global, tokens: &[Token]) -> Result<Items<FunctionText>, Tok
     // A fault is the first.
     ensures fault { IfErr result (StopsFirst SpellsFile tokens.now) }
     // Of which kind a fault is.
-    ensures exact { GivesInMemory (λ x. x) result (whole_of Outside (file_at tokens.now)) }
+    ensures exact { GivesInMemory (λ x. x) result (whole_of tt (file_at tokens.now)) }
 {
-    whole_in_memory(read_functions(alloc, tokens), Part::Outside)
+    whole_in_memory(read_functions(alloc, tokens), ())
 }

@@ -8,12 +8,9 @@ ghost use Rattle.gim_syntax.specs.Readers.{and_item, first_is, head_at, params_b
 
 use crate::declarations::{read_decls, read_params};
 use crate::options::read_options;
-use gim_marks::{read_keyword, read_mark, read_name};
 use gim_statements::read_block;
-use gim_text::{
-    BlockText, DeclText, FunctionText, Keyword, Mark, Part, Token, TokenFault, TokenStop,
-};
-use gim_types::read_type;
+use gim_text::{BlockText, DeclText, FunctionText, Keyword, Mark, Token, TokenFault, TokenStop};
+use gim_words::{read_keyword, read_mark, read_name, read_type};
 use grammar::Stop;
 use pm_items::Items;
 use pm_places::Span;
@@ -41,14 +38,14 @@ fn read_head(tokens: &[Token]) -> Result<(Head, &[Token]), TokenFault<'_>>
     ensures shorter { IfOk result (λ x. length x.1.now < length tokens.now) }
 {
     // A result with an `IntType` beside a slice is matched: the borrow checker has no rule for `?` on it.
-    let (result, rest) = match read_type(Part::Outside, tokens) {
+    let (result, rest) = match read_type(tokens) {
         Ok(read) => read,
         Err(fault) => return Err(fault),
     };
-    let (_, rest) = read_keyword(Keyword::Gimple, Part::Outside, rest)?;
-    let (_, rest) = read_mark(Mark::Open, Part::Outside, rest)?;
+    let (_, rest) = read_keyword(Keyword::Gimple, rest)?;
+    let (_, rest) = read_mark(Mark::Open, rest)?;
     let (_, rest) = read_options(rest)?;
-    let (name, rest) = read_name(Part::Outside, rest)?;
+    let (name, rest) = read_name(rest)?;
     Ok((Head { result, name }, rest))
 }
 
@@ -60,9 +57,9 @@ fn read_params_between(
     ensures reads { GivesInMemory (λ x. (x.0, x.1.now)) result (params_between_at tokens.now) }
     ensures shorter { IfOk result (λ x. length x.1.now < length tokens.now) }
 {
-    let (_, rest) = read_mark(Mark::Open, Part::Outside, tokens)?;
+    let (_, rest) = read_mark(Mark::Open, tokens)?;
     let (params, rest) = read_params(alloc, rest)?;
-    let (_, rest) = read_mark(Mark::Close, Part::Outside, rest)?;
+    let (_, rest) = read_mark(Mark::Close, rest)?;
     Ok((params, rest))
 }
 
@@ -111,10 +108,10 @@ fn read_body(alloc: Global, tokens: &[Token]) -> Result<(Body, &[Token]), TokenS
     ensures reads { GivesInMemory (λ x. (x.0, x.1.now)) result (body_at tokens.now) }
     ensures shorter { IfOk result (λ x. length x.1.now < length tokens.now) }
 {
-    let (_, rest) = read_mark(Mark::OpenBrace, Part::Outside, tokens)?;
+    let (_, rest) = read_mark(Mark::OpenBrace, tokens)?;
     let (decls, rest) = read_decls(alloc, rest)?;
     let (blocks, rest) = read_blocks(alloc, rest)?;
-    let (close, rest) = read_mark(Mark::CloseBrace, Part::Outside, rest)?;
+    let (close, rest) = read_mark(Mark::CloseBrace, rest)?;
     let body = Body {
         decls,
         blocks,

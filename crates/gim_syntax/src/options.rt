@@ -5,8 +5,8 @@ ghost use Rattle.std.specs.Prelude.{◌<◌, length, IfOk};
 ghost use Rattle.grammar.specs.Gives.{Gives};
 ghost use Rattle.gim_syntax.specs.Readers.{ssa_at, options_at};
 
-use gim_marks::read_closing;
-use gim_text::{Mark, Part, Token, TokenFault};
+use gim_text::{Mark, Token, TokenFault};
+use gim_words::read_closing;
 use grammar::Fault;
 use pm_places::Span;
 
@@ -21,10 +21,7 @@ fn read_ssa(tokens: &[Token]) -> Result<(Span, &[Token]), TokenFault<'_>>
         match first {
             Token::Mark(Mark::Open, _) => depth += 1,
             Token::Mark(Mark::Close, _) if depth == 0 => {
-                return Err(Fault {
-                    kind: Part::WithoutSsa,
-                    rest,
-                });
+                return Err(Fault { kind: (), rest });
             }
             Token::Mark(Mark::Close, _) => depth -= 1,
             Token::Ssa(at) if depth == 0 => return Ok((*at, after)),
@@ -32,10 +29,7 @@ fn read_ssa(tokens: &[Token]) -> Result<(Span, &[Token]), TokenFault<'_>>
         }
         rest = after;
     }
-    Err(Fault {
-        kind: Part::Outside,
-        rest,
-    })
+    Err(Fault { kind: (), rest })
 }
 
 /// The `)` that closes the list, from behind its `(` on.
@@ -44,5 +38,5 @@ pub(crate) fn read_options(tokens: &[Token]) -> Result<(Span, &[Token]), TokenFa
     ensures shorter { IfOk result (λ x. length x.1.now < length tokens.now) }
 {
     let (_, rest) = read_ssa(tokens)?;
-    read_closing(Part::Outside, rest)
+    read_closing(rest)
 }

@@ -97,19 +97,8 @@ impl<T: Drop> From<AllocFailed<T>> for GimpleFault {
     }
 }
 
-/// Where a reader of tokens stopped.
-#[derive(Clone, Copy, Debug, PartialEq, Eq)]
-pub enum Part {
-    /// Outside blocks: a head, parameters, declarations, or between functions.
-    Outside,
-    /// From the head of a block to its end.
-    InBlock,
-    /// At the `)` of an option list that lacks `ssa`.
-    WithoutSsa,
-}
-
 /// A token that offends, or tokens that end too early.
-pub type TokenFault<'a> = Fault<'a, Token, Part>;
+pub type TokenFault<'a> = Fault<'a, Token, ()>;
 
 /// Why a reader of tokens that takes memory stopped.
-pub type TokenStop<'a> = grammar::Stop<'a, Token, Part>;
+pub type TokenStop<'a> = grammar::Stop<'a, Token, ()>;

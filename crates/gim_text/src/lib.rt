@@ -13,7 +13,7 @@ mod texts;
 mod token;
 mod tree;
 
-pub use fault::{GimpleFault, GimpleKind, Part, TokenFault, TokenStop};
+pub use fault::{GimpleFault, GimpleKind, TokenFault, TokenStop};
 pub use literals::{constant, literal};
 pub use meaning::{block_word, identifier, keyword, mark, number, type_word};
 pub use texts::name_parts;

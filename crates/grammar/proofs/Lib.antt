@@ -1,3 +1,4 @@
+-- The closure lemmas of exact reading.
 pub mod Lists
 pub mod Basics
 pub mod Parts
@@ -8,3 +9,6 @@ pub mod Chains
 pub mod Loops
 pub mod Recursion
 pub mod WholeInput
+pub mod EveryInput
+pub mod Starts
+pub mod Items

@@ -22,10 +22,6 @@ pub record StillRuns {T S E : Type 0} (step : S → List T → Option (Answer T 
   pub runs : steps_at step left s rest ≡ total
 
 module _ {T S E : Type 0} (step : S → List T → Option (Answer T E S)) where
-  -- before the first step
-  pub begins_to_run : (s : S) (tokens : List T) → StillRuns step (steps_at step (length tokens) s tokens) s tokens
-  begins_to_run s tokens = record { left = length tokens; enough = omega arith; runs = refl }
-
   module _ (total : Answer T E S) (s : S) (rest : List T) (still : StillRuns step total s rest) where
     -- after a step
     pub runs_on : (m : S) (after : List T) → step s rest ≡ Some (Ok (m, after)) → length after < length rest → StillRuns step total m after

@@ -5,10 +5,9 @@ use Rattle.std.proofs.lemmas.List.{append-nil}
 use Rattle.grammar.specs.Spelling.{Spelling}
 use Rattle.grammar.specs.Reading.{Answer}
 use Rattle.grammar.specs.Exact.{IsExact}
-use Rattle.grammar.specs.declared.stop.Fault.{Fault}
 use Rattle.grammar.specs.declared.stop.Stop.{Stop}
 use Rattle.grammar.specs.declared.stop.Stop.TheVariants as stops
-use Rattle.grammar.specs.Gives.{Gives, GivesInMemory}
+use Rattle.grammar.specs.Gives.{GivesInMemory}
 use Rattle.grammar.specs.Whole.{IsFirstFault, StopsFirst, whole_of, IsReading}
 use Rattle.grammar.proofs.Basics.{is_no_fault, same_value, same_rest}
 
@@ -62,18 +61,6 @@ module _ {T E A : Type 0} (N : Spelling T A) (more : T → Type 0) (kind : E) (t
 
 -- What a function of the program owes, whose result is a reading.
 module _ {T E A : Type 0} (N : Spelling T A) (tokens : List T) (answer : Result A (E × List T)) (reading : IsReading N tokens answer) where
-  pub found_by : (result : Result A (Fault T E)) → Gives (λ x. x) result answer → IfOk result (λ x. N x tokens)
-  found_by (Ok x) given = reading.found x given
-  found_by (Err fault) given = tt
-
-  pub only_by : (result : Result A (Fault T E)) → Gives (λ x. x) result answer → (x : A) → N x tokens → result ≡ Ok x
-  only_by (Ok y) given x spelled = ap (λ a. Ok a) (ok_is {F = E × List T} y x (sym given ∙ reading.only x spelled))
-  only_by (Err fault) given x spelled = absurd (ok_no_err x (fault.kind, fault.rest.now) (sym (reading.only x spelled) ∙ given))
-
-  pub fault_by : (result : Result A (Fault T E)) → Gives (λ x. x) result answer → IfErr result (λ f. IsFirstFault N tokens f.rest.now)
-  fault_by (Ok y) given = tt
-  fault_by (Err fault) given = reading.fault (fault.kind, fault.rest.now) given
-
   pub found_in_memory : (result : Result A (Stop T E)) → GivesInMemory (λ x. x) result answer → IfOk result (λ x. N x tokens)
   found_in_memory (Ok x) given = reading.found x given
   found_in_memory (Err stop) given = tt

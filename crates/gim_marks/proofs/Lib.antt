@@ -1,5 +1,0 @@
-pub mod Parts
-pub mod Starts
-pub mod Loops
-pub mod MarksExact
-pub mod BalancedExact

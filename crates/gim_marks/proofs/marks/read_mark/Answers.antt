@@ -1,8 +1,0 @@
-use Rattle.gim_marks.proofs.MarksExact.{mark_exact}
-use Rattle.gim_marks.proofs.marks.read_mark.Goals as goal
-
-pub returns-in-empty-clause-exact : goal.returns-in-empty-clause-exact
-returns-in-empty-clause-exact c = mark_exact c.args.asked c.args.part c.args.tokens.now
-
-pub returns-in-len1-up-clause-exact : goal.returns-in-len1-up-clause-exact
-returns-in-len1-up-clause-exact c = mark_exact c.args.asked c.args.part c.args.tokens.now

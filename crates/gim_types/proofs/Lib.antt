@@ -1,2 +1,0 @@
-pub mod TypeWordsInOrder
-pub mod TypesExact

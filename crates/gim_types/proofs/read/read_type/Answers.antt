@@ -1,8 +1,0 @@
-use Rattle.gim_types.proofs.TypesExact.{type_exact}
-use Rattle.gim_types.proofs.read.read_type.Goals as goal
-
-pub returns-in-Some-clause-exact : goal.returns-in-Some-clause-exact
-returns-in-Some-clause-exact c = type_exact c.args.part c.args.tokens.now
-
-pub returns-in-None-clause-exact : goal.returns-in-None-clause-exact
-returns-in-None-clause-exact c = type_exact c.args.part c.args.tokens.now

@@ -1,4 +1,0 @@
-pub mod Grammar
-pub mod TypeReaders
-pub mod OperandReaders
-pub mod ExpressionReaders
