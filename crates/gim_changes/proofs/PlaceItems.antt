@@ -72,7 +72,7 @@ items_numbered block =
     let end = operands_of_end block.end in
     let phis_long : length phis ≡ length block.phis = length-map block.phis operands_of_phi in
     let long : 1 + length (phis ++ stmts) ≡ 1 + length block.phis + length block.stmts =
-        omega (arith, length-append phis stmts, phis_long, length-map block.stmts operands_of_stmt) in
+    omega (arith, length-append phis stmts, phis_long, length-map block.stmts operands_of_stmt) in
     enumerate-append 1 (phis ++ stmts) (end ∷ [])
     ∙ (ap (λ l. l ++ enumerate_from (1 + length (phis ++ stmts)) (end ∷ [])) (enumerate-append 1 phis stmts ∙ ap (λ m. enumerate_from 1 phis ++ enumerate_from (1 + m) stmts) phis_long)
     ∙ ap (λ m. (enumerate_from 1 phis ++ enumerate_from (1 + length block.phis) stmts) ++ (m, end) ∷ []) long)
@@ -84,10 +84,10 @@ places_are_uses_read block b =
     let k = 1 + length block.phis + length block.stmts in
     let end = operands_of_end block.end in
     let parts : flat_map (places_in_item b) (enumerate_from 1 (items_of block)) ≡ (flat_map (places_in_item b) phis ++ flat_map (places_in_item b) stmts) ++ places_in_item b (k, end) =
-        ap (flat_map (places_in_item b)) (items_numbered block)
-        ∙ (flat_map-append (places_in_item b) (phis ++ stmts) ((k, end) ∷ [])
-        ∙ (ap (λ l. l ++ (places_in_item b (k, end) ++ [])) (flat_map-append (places_in_item b) phis stmts)
-        ∙ ap (λ l. (flat_map (places_in_item b) phis ++ flat_map (places_in_item b) stmts) ++ l) (append-nil (places_in_item b (k, end))))) in
+    ap (flat_map (places_in_item b)) (items_numbered block)
+    ∙ (flat_map-append (places_in_item b) (phis ++ stmts) ((k, end) ∷ [])
+    ∙ (ap (λ l. l ++ (places_in_item b (k, end) ++ [])) (flat_map-append (places_in_item b) phis stmts)
+    ∙ ap (λ l. (flat_map (places_in_item b) phis ++ flat_map (places_in_item b) stmts) ++ l) (append-nil (places_in_item b (k, end))))) in
     ap (map item_and_name) parts
     ∙ sym (seen_both item_and_name_read item_and_name (uses_in_phis block.number 1 block.phis ++ uses_in_stmts block.number (1 + length block.phis) block.stmts) (uses_at block.number k block.number [] end)
     (flat_map (places_in_item b) phis ++ flat_map (places_in_item b) stmts) (places_in_item b (k, end))

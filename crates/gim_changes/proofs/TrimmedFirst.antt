@@ -138,7 +138,7 @@ tidied_trimmed f =
     let rows = filter (row_stays f) f.names in
     let before : tidied (trimmed f) ≡ trimmed (pruned (with_names rows f)) = ap tidied (trimmed_with f.names f) in
     let taken : filter (row_stays (pruned f)) rows ≡ filter (row_stays (pruned f)) f.names =
-        filtered_by_both (row_stays (pruned f)) (row_stays f) (row_stays_before f) f.names in
+    filtered_by_both (row_stays (pruned f)) (row_stays f) (row_stays_before f) f.names in
     before
     ∙ (ap trimmed (pruned_with rows f)
     ∙ (trimmed_with rows (pruned f)
