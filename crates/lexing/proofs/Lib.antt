@@ -6,4 +6,5 @@ pub mod NumberLemmas
 pub mod Opening
 pub mod QuotedLemmas
 pub mod Runs
+pub mod Steps
 pub mod TableLemmas

@@ -2,6 +2,7 @@ pub mod Bytes
 pub mod Cuts
 pub mod Longest
 pub mod Numbers
+pub mod Pieces
 pub mod Quoted
 pub mod Separators
 pub mod Tables

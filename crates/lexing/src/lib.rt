@@ -7,6 +7,7 @@
 
 mod bytes;
 mod numbers;
+mod pieces;
 mod quoted;
 mod separators;
 mod tables;
@@ -17,6 +18,7 @@ pub use bytes::{
     word_len,
 };
 pub use numbers::{is_number_text, leading_digits, number_below, size};
+pub use pieces::Piece;
 pub use quoted::quoted_len;
 pub use separators::{begins_with_space, comment_len};
 pub use tables::{Row, beside, beside_in_any_case};
