@@ -10,6 +10,8 @@ use Rattle.gim_text.specs.declared.token.Token.{Token}
 use Rattle.gim_text.specs.Meanings.{span_of}
 use Rattle.gim_lexer.specs.Separators.{separator_length}
 use Rattle.gim_lexer.specs.Cuts.{line_begins, separator_at, token_at, gimple, AreTokens, IsLexFault, HasOutcome}
+use Rattle.gim_text.specs.declared.fault.GimpleFault.{GimpleFault}
+use Rattle.gim_lexer.specs.Faults.{lex_fault, IsCause}
 use Rattle.gim_lexer.specs.Spelled.{Spells, StandsIn, AllStandIn, InOrder}
 use Rattle.gim_lexer.proofs.Fronts.{separator_within, token_front}
 
@@ -64,3 +66,6 @@ tokens_stand source ts cut = cuts.all_tokens moves StandsIn token_stands source 
 
 pub tokens_in_order : (source : List ℕ) (ts : List Token) → AreTokens source ts → InOrder 0 ts (length source)
 tokens_in_order source ts cut = cuts.tokens_in_order moves source ts cut
+
+pub is_cause : (source : List ℕ) (at : ℕ) (fault : GimpleFault) → fault ≡ lex_fault at → IsLexFault source at → IsCause source fault
+is_cause source at fault e is = subst (IsCause source) (sym e) (refl, is)

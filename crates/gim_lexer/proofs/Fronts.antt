@@ -1,6 +1,6 @@
 -- What begins a text: how long it is, and which bytes it has.
 use Rattle.std.proofs.Common.{◌≡◌, ℕ, suc, ◌+◌, ◌-◌, ◌<◌, ◌≤◌, Bool, true, false, cond, List, [], ◌∷◌, ◌++◌, length, take, drop, codes, Option, Some, None, refl, sym, ap, ◌∙◌, subst, arith, inl, inr}
-use Rattle.std.specs.Prelude.{map, ◌==◌, ◌||◌, ◌&&◌, not}
+use Rattle.std.specs.Prelude.{option_map, map, ◌==◌, ◌||◌, ◌&&◌, not}
 use Rattle.std.specs.List.{prefix_len, list_all, list_any}
 use Rattle.std.specs.Str.{bytes_eq}
 use Rattle.std.specs.Cmp.Lexicographic.{bytes_decides}
@@ -10,7 +10,7 @@ use Rattle.std.proofs.lemmas.List.Sums.{prefix_len-le-length}
 use Rattle.std.proofs.lemmas.List.Folds.{list_any-append}
 use Rattle.std.proofs.Math.Seq.{take-add}
 use Rattle.gim_ast.specs.Identifiers.{is_block_word, is_reserved, reserved_words}
-use Rattle.lexing.specs.Bytes.{is_digit, is_letter, is_word_byte, is_suffix_letter, is_inner}
+use Rattle.lexing.specs.Bytes.{is_digit, is_letter, is_word_byte, is_suffix_letter}
 use Rattle.lexing.specs.Words.{is_word_text}
 use Rattle.pm_places.specs.declared.span.Span.{Span}
 use Rattle.gim_text.specs.declared.token.Token.{Token}
@@ -28,7 +28,9 @@ use Rattle.pm_places.specs.Spans.{place}
 use Rattle.gim_lexer.specs.Spelled.{Spells}
 use Rattle.lexing.proofs.ByteLemmas.{letter_is_word}
 use Rattle.lexing.proofs.Comments.{comment_within}
-use Rattle.lexing.proofs.Opening.{opens_long, opens_first}
+use Rattle.lexing.proofs.Opening.{opens_first}
+use Rattle.lexing.specs.Quoted.{quoted_length}
+use Rattle.lexing.proofs.QuotedLemmas.{quoted_front}
 use Rattle.lexing.proofs.Runs.{run_passes, run_begins}
 use Rattle.lexing.proofs.TableLemmas.{none_among}
 
@@ -162,26 +164,12 @@ number_front at b text h =
 
 text_front : (at : ℕ) (rest : List ℕ) (t : Token) → text_at at rest ≡ Some t → Front at (34 ∷ rest) t
 unfolding text_at
-text_front at rest t e = by (opens (drop (prefix_len is_inner rest) rest) (codes "\"")) refl e where
-  by : (u : Bool) → opens (drop (prefix_len is_inner rest) rest) (codes "\"") ≡ u → cond u (Some (tokens.Text (place at (prefix_len is_inner rest + 2)))) None ≡ Some t → Front at (34 ∷ rest) t
-  by false p e = absurd cc
-  by true p e =
-      let n = prefix_len is_inner rest in
-      let last : 34 ∷ [] ≡ take 1 (drop n rest) = same_bytes (34 ∷ []) (take 1 (drop n rest)) p in
-      let long : 1 ≤ length (drop n rest) = opens_long (drop n rest) (codes "\"") p in
-      let left : length (drop n rest) ≡ length rest - n = length-drop n rest in
-      let more : n + 2 ≡ suc (n + 1) = omega arith in
-      subst (Front at (34 ∷ rest)) (some_is (tokens.Text (place at (n + 2))) t e) (record {
-        len = n + 2;
-        at_place = refl;
-        long = omega arith;
-        within = omega arith;
-        spelled = record {
-          inner = take n rest;
-          parts = ap (λ k. take k (34 ∷ rest)) more ∙ ap (λ bs. 34 ∷ bs) (take-add n 1 rest ∙ ap (λ bs. take n rest ++ bs) (sym last));
-          on_one_line = run_passes is_inner rest;
-        };
-      })
+text_front at rest t e = by (quoted_length rest) refl e where
+  by : (o : Option ℕ) → quoted_length rest ≡ o → option_map (λ n. tokens.Text (place at n)) o ≡ Some t → Front at (34 ∷ rest) t
+  by None p e = absurd cc
+  by (Some n) p e =
+      let f = quoted_front rest n p in
+      subst (Front at (34 ∷ rest)) (some_is (tokens.Text (place at n)) t e) (record { len = n; at_place = refl; long = f.long; within = omega (arith, f.within); spelled = f.is_quoted })
 
 short_front : (at a : ℕ) (text : List ℕ) (t : Token) (m : MarkKind) → short_mark a ≡ Some m → Some (tokens.Mark m (place at 1)) ≡ Some t → Front at (a ∷ text) t
 short_front at a text t m p e =

@@ -3,9 +3,9 @@ use Rattle.std.proofs.Common.{◌≡◌, ℕ, zero, suc, ◌+◌, ◌-◌, ◌<�
 use Rattle.std.specs.Prelude.{◌==◌, ◌&&◌, not}
 use Rattle.std.specs.List.{prefix_len, list_all}
 use Rattle.std.proofs.lemmas.Bool.{and_parts, and_from, false≢true, eqb-true}
-use Rattle.std.proofs.lemmas.List.{length-drop, length-take-le, length-append}
+use Rattle.std.proofs.lemmas.List.{length-drop}
 use Rattle.gim_ast.specs.Identifiers.{is_block_word, is_reserved}
-use Rattle.lexing.specs.Bytes.{is_digit, is_letter, is_word_byte, is_suffix_letter, is_inner}
+use Rattle.lexing.specs.Bytes.{is_digit, is_letter, is_word_byte, is_suffix_letter}
 use Rattle.lexing.specs.Words.{is_word_text}
 use Rattle.lexing.specs.Numbers.{is_number_text}
 use Rattle.pm_places.specs.declared.span.Span.{Span}
@@ -20,11 +20,13 @@ use Rattle.gim_lexer.specs.Marks.{short_mark, long_mark, short_marks, long_marks
 use Rattle.lexing.specs.Separators.{opens}
 use Rattle.gim_lexer.specs.Tokens.{word_at, number_at, text_at, mark_from, mark_at, token_of_text}
 use Rattle.pm_places.specs.Spans.{place}
-use Rattle.gim_lexer.specs.Spelled.{IsNumber, IsQuoted, Spells}
+use Rattle.gim_lexer.specs.Spelled.{IsNumber, Spells}
 use Rattle.gim_lexer.specs.Longest.{Covers, OpensComment, IsLongestMatch}
 use Rattle.gim_lexer.proofs.Fronts.{word_place}
 use Rattle.lexing.proofs.ByteLemmas.{letter_is_word, letter_is_no_digit, digit_is_no_letter}
 use Rattle.lexing.proofs.NumberLemmas.{number_is_word}
+use Rattle.lexing.specs.Quoted.{IsQuoted, quoted_length}
+use Rattle.lexing.proofs.QuotedLemmas.{quoted_found}
 use Rattle.lexing.proofs.Runs.{run_begins, no_run, within_run}
 use Rattle.lexing.proofs.TableLemmas.{beside_passes}
 
@@ -55,23 +57,6 @@ number_within (b ∷ text) (d ∷ digits) suffix (suc m) le e ds ls =
     let more : prefix_len is_digit (b ∷ text) ≡ suc (prefix_len is_digit text) = run_begins is_digit b text (ap is_digit same ∙ parts.0) in
     let later = number_within text digits suffix m (omega arith) rest parts.1 ls in
     rw more (omega (arith, later))
-
-quoted_run : (rest inner : List ℕ) (k : ℕ) → take k rest ≡ inner ++ 34 ∷ [] → list_all is_inner inner ≡ true
-    → (prefix_len is_inner rest ≡ length inner) × (opens (drop (prefix_len is_inner rest) rest) (codes "\"") ≡ true)
-quoted_run rest [] zero e h = absurd cc
-quoted_run rest (i ∷ inner) zero e h = absurd cc
-quoted_run [] [] (suc k) e h = absurd cc
-quoted_run [] (i ∷ inner) (suc k) e h = absurd cc
-quoted_run (b ∷ rest) [] (suc k) e h =
-    let same : b ≡ 34 = cc in
-    subst (λ a. (prefix_len is_inner (a ∷ rest) ≡ 0) × (opens (drop (prefix_len is_inner (a ∷ rest)) (a ∷ rest)) (codes "\"") ≡ true)) (sym same) (refl, refl)
-quoted_run (b ∷ rest) (i ∷ inner) (suc k) e h =
-    let same : b ≡ i = cc in
-    let left : take k rest ≡ inner ++ 34 ∷ [] = cc in
-    let parts = and_parts (is_inner i) (list_all is_inner inner) h in
-    let more : prefix_len is_inner (b ∷ rest) ≡ suc (prefix_len is_inner rest) = run_begins is_inner b rest (ap is_inner same ∙ parts.0) in
-    let later = quoted_run rest inner k left parts.1 in
-    (more ∙ ap suc later.0, ap (λ n. opens (drop n (b ∷ rest)) (codes "\"")) more ∙ later.1)
 
 -- a byte that begins no word, number or text
 is_odd : ℕ → Bool
@@ -150,9 +135,9 @@ number_reaches at text m kind le number = by text m number.digits le number.part
         far = omega (arith, number_within (b ∷ text) (d ∷ digits) number.suffix (suc m) le e h number.are_letters, number_end at (b ∷ text));
       }
 
-text_begins : (at : ℕ) (rest : List ℕ) → opens (drop (prefix_len is_inner rest) rest) (codes "\"") ≡ true → token_of_text at (34 ∷ rest) ≡ Some (tokens.Text (place at (prefix_len is_inner rest + 2)))
+text_begins : (at n : ℕ) (rest : List ℕ) → quoted_length rest ≡ Some n → token_of_text at (34 ∷ rest) ≡ Some (tokens.Text (place at n))
 unfolding token_of_text text_at
-text_begins at rest h = rw h refl
+text_begins at n rest h = rw h refl
 
 text_reaches : (at : ℕ) (text : List ℕ) (m : ℕ) → m ≤ length text → IsQuoted (take m text) → Reaches at text m
 text_reaches at text zero le quoted = absurd (nothing quoted.inner quoted.parts) where
@@ -161,17 +146,9 @@ text_reaches at text zero le quoted = absurd (nothing quoted.inner quoted.parts)
 text_reaches at [] (suc m) le quoted = absurd (omega arith)
 text_reaches at (b ∷ rest) (suc m) le quoted =
     let parts : b ∷ take m rest ≡ 34 ∷ (quoted.inner ++ 34 ∷ []) = quoted.parts in
-    let same : 34 ≡ b = cc in
-    let left : take m rest ≡ quoted.inner ++ 34 ∷ [] = cc in
-    let run = quoted_run rest quoted.inner m left quoted.on_one_line in
-    let short : length (take m rest) ≡ m = length-take-le m rest (omega arith) in
-    let long : length (quoted.inner ++ 34 ∷ []) ≡ length quoted.inner + 1 = length-append quoted.inner (34 ∷ []) in
-    let all : m ≡ prefix_len is_inner rest + 1 = omega (arith, short, long, ap length left, run.0) in
-    subst (λ a. Reaches at (a ∷ rest) (suc m)) same (record {
-      found = tokens.Text (place at (prefix_len is_inner rest + 2));
-      begins = text_begins at rest run.1;
-      far = omega (arith, all);
-    })
+    let same : b ≡ 34 = cc in
+    let found = quoted_found rest m (omega arith) (subst (λ a. IsQuoted (a ∷ take m rest)) same quoted) in
+    subst (λ a. Reaches at (a ∷ rest) (suc m)) (sym same) (record { found = tokens.Text (place at (suc m)); begins = text_begins at (suc m) rest found; far = omega arith })
 
 odd_begins : (at a : ℕ) (text : List ℕ) → is_odd a ≡ true → opens (a ∷ text) (codes "/*") ≡ false → token_of_text at (a ∷ text) ≡ mark_at at (a ∷ text)
 unfolding token_of_text is_odd

@@ -4,7 +4,6 @@ pub mod Longest
 pub mod Marks
 pub mod Meant
 pub mod Numbers
-pub mod Pieces
 pub mod Separators
 pub mod Spelled
 pub mod Tokens

@@ -1,14 +1,14 @@
 -- What the text of a token is.
-use Rattle.std.specs.Prelude.{◌≡◌, ◌⊎◌, ℕ, ◌<◌, ◌≤◌, IsTrue, Some, List, [], ◌∷◌, ◌++◌, length, codes}
+use Rattle.std.specs.Prelude.{◌≡◌, ◌⊎◌, ℕ, ◌<◌, IsTrue, Some, List, ◌++◌, length, codes}
 use Rattle.std.specs.List.{list_all, AllByRecursion}
 use Rattle.gim_ast.specs.Identifiers.{is_identifier, is_block_word}
-use Rattle.lexing.specs.Bytes.{is_digit, is_suffix_letter, is_inner}
+use Rattle.lexing.specs.Bytes.{is_digit, is_suffix_letter}
 use Rattle.gim_text.specs.declared.token.Token.{Token}
 use Rattle.gim_text.specs.declared.token.Token.TheVariants as tokens
 use Rattle.gim_text.specs.declared.token.NumberKind.{NumberKind}
 use Rattle.gim_text.specs.Meanings.{span_of}
-use Rattle.pm_places.specs.Spans.{text_of}
 use Rattle.lexing.specs.Cuts as cuts
+use Rattle.lexing.specs.Quoted.{IsQuoted}
 use Rattle.lexing.specs.Tables.{beside}
 use Rattle.gim_lexer.specs.Words.{type_word_of, keyword_of}
 use Rattle.gim_lexer.specs.Numbers.{number_kind}
@@ -23,12 +23,6 @@ pub record IsNumber (kind : NumberKind) (text : List ℕ) : Type 0 where
   pub are_digits : IsTrue (list_all is_digit digits)
   pub are_letters : IsTrue (list_all is_suffix_letter suffix)
   pub is_kind : number_kind digits suffix ≡ kind
-
--- what stands between two `"` on one line, with them
-pub record IsQuoted (text : List ℕ) : Type 0 where
-  pub inner : List ℕ
-  pub parts : text ≡ 34 ∷ (inner ++ 34 ∷ [])
-  pub on_one_line : IsTrue (list_all is_inner inner)
 
 -- the text is one that the token may have, wherever it stands
 abbrev pub Spells : List ℕ → Token → Type 0

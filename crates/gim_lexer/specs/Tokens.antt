@@ -1,11 +1,12 @@
 -- The token that begins a text, as long as it can be.
-use Rattle.std.specs.Prelude.{ℕ, ◌+◌, ◌==◌, Option, Some, None, List, [], ◌∷◌, take, drop, codes, if◌then◌else◌}
+use Rattle.std.specs.Prelude.{ℕ, ◌+◌, ◌==◌, option_map, Option, Some, None, List, [], ◌∷◌, take, drop, codes, if◌then◌else◌}
 use Rattle.std.specs.List.{prefix_len}
-use Rattle.lexing.specs.Bytes.{is_digit, is_letter, is_word_byte, is_suffix_letter, is_inner}
+use Rattle.lexing.specs.Bytes.{is_digit, is_letter, is_word_byte, is_suffix_letter}
 use Rattle.pm_places.specs.Spans.{place}
 use Rattle.gim_text.specs.declared.token.Token.{Token}
 use Rattle.gim_text.specs.declared.token.Token.TheVariants.{Number, Text, Mark}
 use Rattle.gim_text.specs.declared.token.Mark.{Mark as MarkKind}
+use Rattle.lexing.specs.Quoted.{quoted_length}
 use Rattle.lexing.specs.Separators.{opens}
 use Rattle.gim_lexer.specs.Words.{word_token}
 use Rattle.gim_lexer.specs.Numbers.{number_kind}
@@ -27,9 +28,7 @@ number_at at text =
 
 -- behind a `"`: what stands up to the next one on the same line
 unfoldable pub text_at : ℕ → List ℕ → Option Token
-text_at at rest =
-    let n = prefix_len is_inner rest in
-    if opens (drop n rest) (codes "\"") then Some (Text (place at (n + 2))) else None
+text_at at rest = option_map (λ n. Text (place at n)) (quoted_length rest)
 
 -- two bytes that are a mark, or else one
 abbrev pub mark_from : ℕ → Option MarkKind → Option MarkKind → Option Token

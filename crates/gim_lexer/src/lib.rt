@@ -20,7 +20,7 @@ ghost use Rattle.gim_lexer.specs.Cuts.{AreTokens};
 ghost use Rattle.gim_lexer.specs.Faults.{lex_fault, IsCause};
 
 use gim_text::{GimpleFault, GimpleKind, Token};
-use pieces::Piece;
+use lexing::Piece;
 use pm_places::Span;
 use std::alloc::Global;
 

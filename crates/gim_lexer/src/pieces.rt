@@ -1,20 +1,13 @@
 //! What begins at a place of a source.
 
 ghost use Rattle.std.specs.Prelude.{◌≡◌, ◌≤◌, ◌<◌, length, drop};
-ghost use Rattle.gim_lexer.specs.Cuts.{line_begins};
-ghost use Rattle.gim_lexer.specs.Pieces.{piece_at};
+ghost use Rattle.lexing.specs.Pieces.{piece_at};
+ghost use Rattle.gim_lexer.specs.Cuts.{line_begins, gimple};
 
 use crate::separators::separator_len;
 use crate::tokens::token_of_text;
 use gim_text::Token;
-
-/// What begins at a place.
-#[derive(Clone, Copy)]
-pub(crate) enum Piece {
-    /// A separator, with the place where it ends.
-    Separator(usize),
-    Token(Token),
-}
+use lexing::Piece;
 
 /// Whether a line begins at the place.
 #[tactic(auto, unfolding(crate::specs::Cuts::line_begins))]
@@ -26,10 +19,9 @@ fn line_begins(source: &[u8], at: usize) -> bool
 }
 
 /// What begins at the place.
-#[tactic(auto, unfolding(crate::specs::Pieces::piece_at))]
-pub(crate) fn piece_at(source: &[u8], at: usize) -> Option<Piece>
+pub(crate) fn piece_at(source: &[u8], at: usize) -> Option<Piece<Token>>
     requires { at ≤ length source.now }
-    ensures { result ≡ piece_at source.now at }
+    ensures { result ≡ piece_at gimple source.now at }
 {
     let (_, text) = source.split_at(at);
     if let Some(len) = separator_len(line_begins(source, at), text) {

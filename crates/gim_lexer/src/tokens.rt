@@ -7,7 +7,7 @@ use crate::marks::{long_mark, short_mark};
 use crate::numbers::number_kind;
 use crate::words::word_token;
 use gim_text::Token;
-use lexing::{digits_len, inner_len, is_digit, is_letter, suffix_len, word_len};
+use lexing::{digits_len, is_digit, is_letter, quoted_len, suffix_len, word_len};
 use pm_places::place;
 
 /// The word at the front.
@@ -41,13 +41,8 @@ fn text_at(at: usize, rest: &[u8]) -> Option<Token>
     requires { at + length rest.now + 1 < 2 ^ 64 }
     ensures { result ≡ text_at at rest.now }
 {
-    let len = inner_len(rest);
-    let (_, behind) = rest.split_at(len);
-    if behind.starts_with(b"\"") {
-        Some(Token::Text(place(at, len + 2)))
-    } else {
-        None
-    }
+    let len = quoted_len(rest)?;
+    Some(Token::Text(place(at, len)))
 }
 
 /// The mark at the front.

@@ -4,5 +4,7 @@ pub mod Cutting
 pub mod DigitLemmas
 pub mod NumberLemmas
 pub mod Opening
+pub mod QuotedLemmas
 pub mod Runs
+pub mod Steps
 pub mod TableLemmas

@@ -75,7 +75,7 @@ pub fn line_len(text: &[u8]) -> usize
 }
 
 /// How many bytes there are at the front before a `"` and before the end of the line.
-pub fn inner_len(text: &[u8]) -> usize
+pub(crate) fn inner_len(text: &[u8]) -> usize
     ensures run { result ≡ prefix_len is_inner text.now }
     ensures within { result ≤ length text.now }
 {

@@ -29,7 +29,8 @@ fn runs(rt: HostRuntime) {
     assert_eq!(rt; digits_len(b"12a"), 2);
     assert_eq!(rt; suffix_len(b"uLx"), 2);
     assert_eq!(rt; line_len(b"ab\nc"), 2);
-    assert_eq!(rt; inner_len(b"ab\"c"), 2);
+    assert_eq!(rt; quoted_len(b"ab\"c"), Some(4));
+    assert_eq!(rt; quoted_len(b"ab\nc\""), None);
     assert!(rt; is_word_text(b"_1") && !is_word_text(b"1_") && !is_word_text(b""));
 }
 

@@ -1,8 +1,8 @@
 use Rattle.std.proofs.Common.{arith, ap}
 use Rattle.pm_places.specs.declared.span.Span.{Span}
 use Rattle.lexing.proofs.Cutting.{begun, whole}
-use Rattle.gim_lexer.proofs.Cutting.{same_tokens, no_tokens}
-use Rattle.gim_lexer.proofs.Steps.{step_separator, step_token, step_fault, stepped, is_cause}
+use Rattle.gim_lexer.proofs.Cutting.{moves, same_tokens, no_tokens, is_cause}
+use Rattle.lexing.proofs.Steps.{step_separator, step_token, step_fault, stepped}
 use Rattle.gim_lexer.proofs.lex.Goals as goal
 
 pub loop-at-init : goal.loop-at-init
@@ -10,20 +10,20 @@ loop-at-init c = begun c.args.source.now c.new-tokens.result.items c.new-tokens.
 
 pub loop-at-smaller-in-Separator : goal.loop-at-smaller-in-Separator
 loop-at-smaller-in-Separator c =
-    let s = step_separator c.args.source.now c.loop-at.tokens.items c.loop-at.at c.in-Separator.to c.in-Some.piece c.loop-at.invariant c.in-Some.ensures c.in-Separator.is in
+    let s = step_separator moves c.args.source.now c.loop-at.tokens.items c.loop-at.at c.in-Separator.to c.in-Some.piece c.loop-at.invariant c.in-Some.ensures c.in-Separator.is in
     omega (arith, s.0.within, s.1, c.loop-at-test.true)
 
 pub loop-at-preserved-in-Separator : goal.loop-at-preserved-in-Separator
-loop-at-preserved-in-Separator c = (step_separator c.args.source.now c.loop-at.tokens.items c.loop-at.at c.in-Separator.to c.in-Some.piece c.loop-at.invariant c.in-Some.ensures c.in-Separator.is).0
+loop-at-preserved-in-Separator c = (step_separator moves c.args.source.now c.loop-at.tokens.items c.loop-at.at c.in-Separator.to c.in-Some.piece c.loop-at.invariant c.in-Some.ensures c.in-Separator.is).0
 
 pub loop-at-smaller : goal.loop-at-smaller
 loop-at-smaller c =
-    let s = step_token c.args.source.now c.loop-at.tokens.items c.loop-at.at c.in-Token.token c.in-Some.piece c.loop-at.invariant c.in-Some.ensures c.in-Token.is in
+    let s = step_token moves c.args.source.now c.loop-at.tokens.items c.loop-at.at c.in-Token.token c.in-Some.piece c.loop-at.invariant c.in-Some.ensures c.in-Token.is in
     omega (arith, s.0.within, s.1, c.loop-at-test.true, ap (λ (span : Span). span.to) c.span-at.ensures)
 
 pub loop-at-preserved : goal.loop-at-preserved
 loop-at-preserved c =
-    let s = step_token c.args.source.now c.loop-at.tokens.items c.loop-at.at c.in-Token.token c.in-Some.piece c.loop-at.invariant c.in-Some.ensures c.in-Token.is in
+    let s = step_token moves c.args.source.now c.loop-at.tokens.items c.loop-at.at c.in-Token.token c.in-Some.piece c.loop-at.invariant c.in-Some.ensures c.in-Token.is in
     stepped c.args.source.now _ _ _ _ c.in_ok-push-in-Token.ensures.items c.span-at.ensures s.0
 
 pub returns-in_default-clause-only : goal.returns-in_default-clause-only
