@@ -3,18 +3,8 @@ use Rattle.std.proofs.Common.{◌≡◌, List, [], ◌∷◌, ◌++◌, Option, 
 use Rattle.grammar.specs.Spelling.{Spelling, Meant, Then}
 use Rattle.grammar.specs.Reading.{Answer, ◌>>=◌}
 use Rattle.grammar.specs.Exact.{IsApart}
-use Rattle.gim_text.specs.declared.token.Span.{Span}
 use Rattle.gim_text.specs.declared.token.Token.{Token}
-use Rattle.gim_words.specs.Types.{SpellsType, GoesOnType}
-use Rattle.gim_words.specs.TypeReaders.{type_at}
-use Rattle.gim_words.proofs.TypesExact.{some_type, type_exact}
 use Rattle.grammar.proofs.EveryInput.{Reads, in_sequence}
-
-pub somewhere : Span
-somewhere = record { from = 0; to = 0 }
-
-pub type_reads : Reads SpellsType GoesOnType (type_at)
-type_reads = record { some = some_type; exact = λ input. type_exact input }
 
 -- a sequence whose first part is a token takes one, and begins with it
 pub takes_token : {A : Type 0} (meaning : Token → Option A) (x : A) (u v : List Token) → Meant meaning x u → [] ≡ u ++ v → ⊥
