@@ -1,6 +1,6 @@
 -- Blocks are read exactly.
-use Rattle.std.proofs.Common.{◌≡◌, true, List, [], ◌∷◌, ◌++◌, Option, Some, None, Ok, refl, sym, subst, inl, inr}
-use Rattle.grammar.specs.Spelling.{Spelling, Begins, Meant, Then, Mapped, Many}
+use Rattle.std.proofs.Common.{◌≡◌, true, List, [], ◌∷◌, ◌++◌, Option, Some, Ok, refl, subst, inl, inr}
+use Rattle.grammar.specs.Spelling.{Spelling, Meant, Then, Mapped, Many}
 use Rattle.grammar.specs.Reading.{Answer, ◌>>=◌}
 use Rattle.grammar.specs.Exact.{IsApart, IsExact}
 use Rattle.grammar.proofs.Parts.{apart_within}

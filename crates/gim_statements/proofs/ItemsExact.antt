@@ -2,7 +2,7 @@
 use Rattle.std.proofs.Common.{◌≡◌, true, List, [], ◌∷◌, ◌++◌, Some, None, Ok, refl, sym, subst, inl, inr}
 use Rattle.std.proofs.lemmas.List.{append-nil}
 use Rattle.grammar.specs.Spelling.{Spelling, Begins, Nothing, Meant, Then, Mapped}
-use Rattle.grammar.specs.Reading.{Answer, ◌>>=◌, more_at}
+use Rattle.grammar.specs.Reading.{◌>>=◌, more_at}
 use Rattle.grammar.specs.Exact.{IsApart, IsExact}
 use Rattle.grammar.proofs.Sequence.{Never}
 use Rattle.grammar.proofs.Parts.{apart_within}
@@ -15,7 +15,7 @@ use Rattle.gim_text.specs.declared.token.Mark.TheVariants as marks
 use Rattle.gim_text.specs.declared.tree.ArgText.{ArgText}
 use Rattle.gim_text.specs.declared.tree.ItemText.{ItemText}
 use Rattle.gim_text.specs.declared.tree.ItemText.TheVariants as items
-use Rattle.gim_words.specs.TokenReaders.{mark_at, keyword_at, is_comma}
+use Rattle.gim_words.specs.TokenReaders.{keyword_at, is_comma}
 use Rattle.grammar.proofs.EveryInput.{Reads, nothing, seen_by, after_token, in_sequence, in_words}
 use Rattle.grammar.proofs.Starts.{Begun, meant_begun, front_begun, before_token, Either, left_of, right_of}
 use Rattle.grammar.proofs.Items.{Added, items_added, first_of_items}

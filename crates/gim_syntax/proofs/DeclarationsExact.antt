@@ -15,7 +15,7 @@ use Rattle.gim_text.specs.declared.token.Mark.TheVariants as marks
 use Rattle.gim_text.specs.declared.token.Keyword.TheVariants as keywords
 use Rattle.gim_text.specs.declared.tree.DeclText.{DeclText}
 use Rattle.gim_words.specs.TokenReaders.{mark_at, name_at}
-use Rattle.grammar.proofs.EveryInput.{Reads, seen_by, after_free, after_token, in_words}
+use Rattle.grammar.proofs.EveryInput.{Reads, seen_by, after_free, after_token, in_words, apart_before}
 use Rattle.gim_words.proofs.TokensExact.{some_mark, mark_reads, name_reads, comma_is}
 use Rattle.gim_words.specs.Types.{SpellsType, GoesOnType}
 use Rattle.gim_words.specs.TypeReaders.{type_at}
@@ -25,7 +25,7 @@ use Rattle.grammar.specs.Reading.{and_item, more_at}
 use Rattle.gim_words.specs.TokenReaders.{is_comma}
 use Rattle.gim_syntax.specs.Readers.{typed_at, decl_at, begins_type, decls_at, further_at, param_list_at, params_at}
 use Rattle.grammar.proofs.Items.{Added, items_added, items_read}
-use Rattle.gim_syntax.proofs.Tokens.{takes_token, begins_with, apart_before}
+use Rattle.grammar.proofs.Starts.{takes_token, begins_with}
 
 -- type ident
 

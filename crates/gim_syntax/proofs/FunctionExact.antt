@@ -15,7 +15,7 @@ use Rattle.gim_text.specs.declared.tree.DeclText.{DeclText}
 use Rattle.gim_text.specs.declared.tree.BlockText.{BlockText}
 use Rattle.gim_text.specs.declared.tree.FunctionText.{FunctionText}
 use Rattle.gim_words.specs.TokenReaders.{mark_at, keyword_at, name_at}
-use Rattle.grammar.proofs.EveryInput.{Reads, seen_by, after_free, after_token, in_words}
+use Rattle.grammar.proofs.EveryInput.{Reads, seen_by, after_free, after_token, in_words, apart_before}
 use Rattle.gim_words.proofs.TokensExact.{some_mark, some_keyword, mark_reads, name_reads}
 use Rattle.gim_words.specs.Types.{SpellsType, GoesOnType}
 use Rattle.gim_words.specs.TypeReaders.{type_at}
@@ -28,7 +28,7 @@ use Rattle.gim_syntax.specs.declared.function.Body.{Body}
 use Rattle.gim_syntax.specs.Grammar.{SpellsDecl, SpellsParams, SpellsHead, SpellsParamsBetween, SpellsBody, SpellsFunction}
 use Rattle.gim_syntax.specs.Readers.{options_at, params_at, head_at, params_between_at, decls_at, begins_block, blocks_at, body_at, function_of, function_at}
 use Rattle.grammar.proofs.Items.{items_read, first_of_items}
-use Rattle.gim_syntax.proofs.Tokens.{takes_token, begins_with, apart_before}
+use Rattle.grammar.proofs.Starts.{takes_token, begins_with}
 use Rattle.gim_syntax.proofs.OptionsExact.{Options, options_reads}
 use Rattle.gim_syntax.proofs.DeclarationsExact.{GoesOnParams, params_reads, decls_reads}
 

@@ -1,5 +1,4 @@
 -- Exactness from the option list up to the file, and its fault.
-pub mod Tokens
 pub mod OptionsExact
 pub mod DeclarationsExact
 pub mod FunctionExact

@@ -1,6 +1,6 @@
 -- Readers of functions and files on lists of tokens, between code and grammar: the contracts of `parse` and `read_syntax`
 -- and all above rest on the grammar and the faults alone.
-use Rattle.std.specs.Prelude.{ℕ, zero, suc, List, [], ◌∷◌, ◌++◌, length, Bool, true, false, if◌then◌else◌, Option, Some, None, Ok, Err}
+use Rattle.std.specs.Prelude.{ℕ, zero, suc, List, [], ◌∷◌, Bool, true, false, Ok, Err}
 use Rattle.grammar.specs.Reading.{Answer, ◌>>=◌, and_item, more_at}
 use Rattle.gim_text.specs.declared.token.Span.{Span}
 use Rattle.gim_text.specs.declared.token.Token.{Token}
