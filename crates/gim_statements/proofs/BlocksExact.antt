@@ -1,11 +1,10 @@
 -- Blocks are read exactly.
-use Rattle.std.proofs.Common.{◌≡◌, List, [], ◌∷◌, ◌++◌, Option, Some, None, Ok, refl, sym, subst, inl, inr}
-use Rattle.grammar.specs.Spelling.{Spelling, Begins, Meant, Then, Mapped, Steps, Item, Many}
+use Rattle.std.proofs.Common.{◌≡◌, true, List, [], ◌∷◌, ◌++◌, Option, Some, Ok, refl, subst, inl, inr}
+use Rattle.grammar.specs.Spelling.{Spelling, Meant, Then, Mapped, Many}
 use Rattle.grammar.specs.Reading.{Answer, ◌>>=◌}
 use Rattle.grammar.specs.Exact.{IsApart, IsExact}
 use Rattle.grammar.proofs.Parts.{apart_within}
 use Rattle.grammar.proofs.Sequence.{Never}
-use Rattle.grammar.proofs.Chains.{items_of_steps, steps_of_items}
 use Rattle.gim_text.specs.Meanings.{mark, keyword}
 use Rattle.pm_places.specs.declared.span.Span.{Span}
 use Rattle.gim_text.specs.declared.token.Token.{Token}
@@ -20,12 +19,12 @@ use Rattle.gim_words.specs.Tokens.{plain_number}
 use Rattle.gim_words.specs.TokenReaders.{mark_at, closing_at}
 use Rattle.grammar.proofs.EveryInput.{Reads, seen_by, after_token, after_free, in_sequence, in_words}
 use Rattle.grammar.proofs.Starts.{Begun, meant_begun, front_begun, Either, left_of, right_of}
-use Rattle.grammar.proofs.Items as loops
+use Rattle.grammar.proofs.Items.{items_read}
 use Rattle.gim_words.proofs.TokensExact.{some_mark, some_keyword, some_plain_number, mark_reads}
 use Rattle.gim_words.proofs.BalancedExact.{closing_reads}
 use Rattle.gim_statements.specs.Grammar.{SpellsItem, SpellsNote, SpellsEndIfAny, SpellsBlock, GoesOnBlock}
 use Rattle.gim_statements.specs.ItemReaders.{item_at}
-use Rattle.gim_statements.specs.BlockReaders.{note_at, further_item_at, items_at, end_at, block_at}
+use Rattle.gim_statements.specs.BlockReaders.{note_at, begins_item, items_at, end_at, block_at}
 use Rattle.gim_statements.proofs.OperandsExact.{IsName}
 use Rattle.gim_statements.proofs.ItemsExact.{IsComma, comma_is, item_reads, item_begun}
 use Rattle.gim_statements.proofs.EndsExact.{StartsEnd, end_begun, end_reads}
@@ -80,37 +79,20 @@ note_of w (inr (u, v, (m, comma), (x, closing), cut)) = (x, inr (m, u, v, comma,
 
 -- items
 
-none_is_some : {A : Type 0} (x : A) → None ≡ Some x → ⊥
-none_is_some x e = cc
+name_begins : (t : Token) → IsName t → begins_item t ≡ true
+name_begins (tokens.Identifier at) h = refl
+name_begins (tokens.Ssa at) h = refl
+name_begins t h = absurd h
 
-name_kept : (t : Token) → IsName t → ¬ Never t
-name_kept t h = λ impossible. impossible
+begins_name : (t : Token) → begins_item t ≡ true → IsName t
+begins_name (tokens.Identifier at) e = tt
+begins_name (tokens.Ssa at) e = tt
+begins_name t e = absurd (cc)
 
-never_on : (t : Token) → Never t → IsName t
-never_on t h = absurd h
-
-item_goes_on : (s : List ItemText) (t : Token) (rest : List Token) (answer : Answer Token (Unit {0}) (List ItemText)) → further_item_at s (t ∷ rest) ≡ Some answer → IsName t
-item_goes_on s (tokens.Identifier at) rest answer e = tt
-item_goes_on s (tokens.Ssa at) rest answer e = tt
-item_goes_on s t rest answer e = absurd (none_is_some answer e)
-
-item_more : (s : List ItemText) (t : Token) (rest : List Token) (answer : Answer Token (Unit {0}) (List ItemText)) → further_item_at s (t ∷ rest) ≡ Some answer
-    → (item_at (t ∷ rest) >>= λ x. Ok (s ++ x.0 ∷ [], x.1)) ≡ answer
-item_more s (tokens.Identifier at) rest answer e = cc
-item_more s (tokens.Ssa at) rest answer e = cc
-item_more s t rest answer e = absurd (none_is_some answer e)
-
-item_ends : (s : List ItemText) (t : Token) (rest : List Token) → further_item_at s (t ∷ rest) ≡ None → ¬ IsName t
-item_ends s (tokens.Identifier at) rest e = absurd (cc)
-item_ends s (tokens.Ssa at) rest e = absurd (cc)
-item_ends s t rest e = λ impossible. impossible
-
-ItemSteps : List ItemText → List Token → Type 0
-ItemSteps = Steps (Item SpellsItem) []
-
-items_reads : Reads ItemSteps IsName items_at
-unfolding ItemSteps
-items_reads = loops.loop_reads SpellsItem Never IsName IsName item_at item_reads further_item_at item_begun name_kept never_on (λ s. refl) item_goes_on item_more item_ends []
+items_reads : Reads (Many SpellsItem) IsName items_at
+items_reads =
+    items_read SpellsItem begins_item item_at Never IsName item_reads (λ x s. item_begun x [] s) (λ x t w s. name_begins t (item_begun x (t ∷ w) s))
+    (λ t e impossible. impossible) (λ t impossible. absurd impossible) begins_name
 
 -- blocks
 
@@ -118,7 +100,7 @@ block : Span → Span → List ItemText → Option EndText → BlockText
 block head number items end = record { head = head; number = number; items = items; end = end }
 
 AfterColon : Span → Span → Spelling Token BlockText
-AfterColon head number = Then ItemSteps (λ items. Mapped (block head number items) SpellsEndIfAny)
+AfterColon head number = Then (Many SpellsItem) (λ items. Mapped (block head number items) SpellsEndIfAny)
 
 AfterNumber : Span → Span → Spelling Token BlockText
 AfterNumber head number = Then Note (λ right. Then (Meant (mark marks.Colon)) (λ k. AfterColon head number))
@@ -145,7 +127,7 @@ body_at head number input = items_at input >>= λ items. end_at items.1 >>= λ e
 body_reads : (head number : Span) → Reads (AfterColon head number) GoesOnBlock (body_at head number)
 unfolding AfterColon block body_at
 body_reads head number =
-    in_sequence ItemSteps (λ items. Mapped (block head number items) SpellsEndIfAny) IsName GoesOnBlock (λ items y v z m far. end_apart items m.0 v z m.1 far) items_at
+    in_sequence (Many SpellsItem) (λ items. Mapped (block head number items) SpellsEndIfAny) IsName GoesOnBlock (λ items y v z m far. end_apart items m.0 v z m.1 far) items_at
     (λ items. end_at items.1 >>= λ end. Ok (record { head = head; number = number; items = items.0; end = end.0 }, end.1)) items_reads (λ items.
     seen_by (block head number items) SpellsEndIfAny GoesOnBlock end_at end_reads)
 
@@ -160,30 +142,20 @@ block_form_reads =
     body_reads head number)))))
 
 block_spelled : (x : BlockText) (w : List Token) → BlockForm x w → SpellsBlock x w
-unfolding BlockForm AfterNumber AfterColon ItemSteps block
-block_spelled x w (head, u, v, word, (o, u1, v1, left, (number, u2, v2, digits, (right, u3, v3, note, (k, u4, v4, colon, (items, u5, v5, steps, (end, s, same), cut5), cut4), cut3), cut2), cut1), cut) =
-    let many = items_of_steps SpellsItem [] items u5 steps in
+unfolding BlockForm AfterNumber AfterColon block
+block_spelled x w (head, u, v, word, (o, u1, v1, left, (number, u2, v2, digits, (right, u3, v3, note, (k, u4, v4, colon, (items, u5, v5, many, (end, s, same), cut5), cut4), cut3), cut2), cut1), cut) =
     subst (λ y. SpellsBlock y w) same
-    (u, v, word, (u1, v1, (o, left), (u2, v2, digits, (u3, v3, note_spelled right u3 note, (u4, v4, (k, colon), (u5, v5, subst (λ l. Many SpellsItem l u5) (sym many.1) many.2, s, cut5), cut4), cut3), cut2), cut1), cut)
+    (u, v, word, (u1, v1, (o, left), (u2, v2, digits, (u3, v3, note_spelled right u3 note, (u4, v4, (k, colon), (u5, v5, many, s, cut5), cut4), cut3), cut2), cut1), cut)
 
 block_of : (x : BlockText) (w : List Token) → SpellsBlock x w → BlockForm x w
-unfolding BlockForm AfterNumber AfterColon ItemSteps block
+unfolding BlockForm AfterNumber AfterColon block
 block_of x w (u, v, word, (u1, v1, (o, left), (u2, v2, digits, (u3, v3, note, (u4, v4, (k, colon), (u5, v5, many, s, cut5), cut4), cut3), cut2), cut1), cut) =
     let right = note_of u3 note in
-    (x.head, u, v, word, (o, u1, v1, left, (x.number, u2, v2, digits, (right.0, u3, v3, right.1, (k, u4, v4, colon, (x.items, u5, v5, steps_of_items SpellsItem [] x.items u5 many, (x.end, s, refl), cut5), cut4), cut3), cut2), cut1), cut)
+    (x.head, u, v, word, (o, u1, v1, left, (x.number, u2, v2, digits, (right.0, u3, v3, right.1, (k, u4, v4, colon, (x.items, u5, v5, many, (x.end, s, refl), cut5), cut4), cut3), cut2), cut1), cut)
 
 -- Blocks.
 pub block_reads : Reads SpellsBlock GoesOnBlock block_at
 block_reads = in_words BlockForm SpellsBlock GoesOnBlock block_at block_spelled block_of block_form_reads
 
-pub some_block : Begins SpellsBlock []
-some_block = block_reads.some
-
 pub block_exact : (input : List Token) → IsExact SpellsBlock GoesOnBlock input (block_at input)
 block_exact input = block_reads.exact input
-
--- a block begins with `__BB`
-pub block_begun : (x : BlockText) (w : List Token) → SpellsBlock x w → Begun (λ t. (at : Span) × (keyword keywords.Block t ≡ Some at)) w
-block_begun x w (u, v, word, others, cut) =
-    front_begun (λ t. (at : Span) × (keyword keywords.Block t ≡ Some at)) u v w
-    (meant_begun (keyword keywords.Block) (λ t. (at : Span) × (keyword keywords.Block t ≡ Some at)) (λ t at e. (at, e)) x.head u word) cut

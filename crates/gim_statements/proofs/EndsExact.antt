@@ -42,7 +42,7 @@ note_form_reads : Reads NoteForm Never (λ input. mark_at marks.Open input >>= �
 unfolding NoteForm
 note_form_reads =
     after_token (mark marks.Open) tt (some_mark marks.Open) (λ o. Then Closing (λ k. Meant (mark marks.Semicolon))) Never (λ o. closing_at o.1 >>= λ k. mark_at marks.Semicolon k.1) (λ o.
-    after_free Closing (λ k. Meant (mark marks.Semicolon)) Never (closing_at) (λ k. mark_at marks.Semicolon k.1) (closing_reads) (λ k. mark_reads marks.Semicolon Never))
+    after_free Closing (λ k. Meant (mark marks.Semicolon)) Never closing_at (λ k. mark_at marks.Semicolon k.1) closing_reads (λ k. mark_reads marks.Semicolon Never))
 
 note_form_begun : (x : Span) (w : List Token) → NoteForm x w → Begun IsOpen w
 unfolding NoteForm

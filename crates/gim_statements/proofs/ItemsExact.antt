@@ -1,11 +1,11 @@
 -- Phis and statements are read exactly.
-use Rattle.std.proofs.Common.{◌≡◌, List, [], ◌∷◌, ◌++◌, length, Some, None, Ok, refl, sym, subst, inl, inr}
+use Rattle.std.proofs.Common.{◌≡◌, true, List, [], ◌∷◌, ◌++◌, Some, None, Ok, refl, sym, subst, inl, inr}
 use Rattle.std.proofs.lemmas.List.{append-nil}
-use Rattle.grammar.specs.Spelling.{Spelling, Begins, Nothing, Meant, Then, Mapped, Steps, Item}
-use Rattle.grammar.specs.Reading.{Answer, ◌>>=◌, steps_at}
+use Rattle.grammar.specs.Spelling.{Spelling, Begins, Nothing, Meant, Then, Mapped}
+use Rattle.grammar.specs.Reading.{◌>>=◌, more_at}
 use Rattle.grammar.specs.Exact.{IsApart, IsExact}
 use Rattle.grammar.proofs.Sequence.{Never}
-use Rattle.grammar.proofs.Chains.{items_of_steps, steps_of_items}
+use Rattle.grammar.proofs.Parts.{apart_within}
 use Rattle.gim_text.specs.Meanings.{mark, keyword, identifier, block_word}
 use Rattle.pm_places.specs.declared.span.Span.{Span}
 use Rattle.gim_text.specs.declared.token.Token.{Token}
@@ -15,10 +15,10 @@ use Rattle.gim_text.specs.declared.token.Mark.TheVariants as marks
 use Rattle.gim_text.specs.declared.tree.ArgText.{ArgText}
 use Rattle.gim_text.specs.declared.tree.ItemText.{ItemText}
 use Rattle.gim_text.specs.declared.tree.ItemText.TheVariants as items
-use Rattle.gim_words.specs.TokenReaders.{mark_at, keyword_at}
+use Rattle.gim_words.specs.TokenReaders.{keyword_at, is_comma}
 use Rattle.grammar.proofs.EveryInput.{Reads, nothing, seen_by, after_token, in_sequence, in_words}
 use Rattle.grammar.proofs.Starts.{Begun, meant_begun, front_begun, before_token, Either, left_of, right_of}
-use Rattle.grammar.proofs.Items as loops
+use Rattle.grammar.proofs.Items.{Added, items_added, first_of_items}
 use Rattle.gim_words.proofs.TokensExact.{some_mark, some_keyword, some_name, some_block_word}
 use Rattle.gim_statements.specs.Grammar.{SpellsOperand, SpellsRight, SpellsArg, SpellsFurtherArg, SpellsArgs, SpellsItem}
 use Rattle.gim_statements.specs.OperandReaders.{operand_at}
@@ -49,13 +49,9 @@ arg_reads = in_words ArgForm SpellsArg IsOpen arg_at to back arg_form_reads
     back : (x : ArgText) (w : List Token) → SpellsArg x w → ArgForm x w
     back x w (u, v, word, (u1, v1, (k, colon), s, cut1), cut) = (x.from, u, v, word, (k, u1, v1, colon, (x.operand, s, refl), cut1), cut)
 
-further_at : List Token → Answer Token (Unit {0}) ArgText
-further_at input = mark_at marks.Comma input >>= λ m. arg_at m.1
-
-further_reads : Reads SpellsFurtherArg IsOpen further_at
-unfolding further_at
+further_reads : Reads SpellsFurtherArg IsOpen further_arg_at
 further_reads =
-    in_words (Then (Meant (mark marks.Comma)) (λ m. SpellsArg)) SpellsFurtherArg IsOpen further_at to back
+    in_words (Then (Meant (mark marks.Comma)) (λ m. SpellsArg)) SpellsFurtherArg IsOpen further_arg_at to back
     (after_token (mark marks.Comma) tt (some_mark marks.Comma) (λ m. SpellsArg) IsOpen (λ m. arg_at m.1) (λ m. arg_reads))
   where
     to : (x : ArgText) (w : List Token) → Then (Meant (mark marks.Comma)) (λ m. SpellsArg) x w → SpellsFurtherArg x w
@@ -72,6 +68,10 @@ pub comma_is : (t : Token) (x : Span) → mark marks.Comma t ≡ Some x → IsCo
 comma_is (tokens.Mark marks.Comma at) x e = tt
 comma_is t x e = absurd (cc)
 
+comma_begins : (t : Token) → IsComma t → is_comma t ≡ true
+comma_begins (tokens.Mark marks.Comma at) h = refl
+comma_begins t h = absurd h
+
 -- what can go on arguments: `(` after a name, `,`
 abbrev GoesOnArgs : Token → Type 0
 GoesOnArgs (tokens.Mark marks.Open at) = Unit {0}
@@ -82,57 +82,48 @@ open_in_args : (t : Token) → IsOpen t → GoesOnArgs t
 open_in_args (tokens.Mark marks.Open at) h = tt
 open_in_args t h = absurd h
 
+comma_in_args : (t : Token) → is_comma t ≡ true → GoesOnArgs t
+comma_in_args (tokens.Mark marks.Comma at) e = tt
+comma_in_args t e = absurd (cc)
+
 close_not_in_args : (t : Token) → GoesOnArgs t → mark marks.Close t ≡ None
 close_not_in_args (tokens.Mark marks.Open at) h = refl
 close_not_in_args (tokens.Mark marks.Comma at) h = refl
 close_not_in_args t h = absurd h
 
-comma_kept : (t : Token) → IsComma t → ¬ IsOpen t
-comma_kept (tokens.Mark marks.Open at) h = absurd h
-comma_kept t h = λ impossible. impossible
+comma_kept : (t : Token) → is_comma t ≡ true → ¬ IsOpen t
+comma_kept (tokens.Mark marks.Open at) e = absurd (cc)
+comma_kept t e = λ impossible. impossible
 
 further_begun : (x : ArgText) (w : List Token) → SpellsFurtherArg x w → Begun IsComma w
 further_begun x w (u, v, (m, comma), s, cut) = front_begun IsComma u v w (meant_begun (mark marks.Comma) IsComma comma_is m u comma) cut
 
-none_is_some : {A : Type 0} (x : A) → None ≡ Some x → ⊥
-none_is_some x e = cc
+begins_further : (x : ArgText) (t : Token) (w : List Token) → SpellsFurtherArg x (t ∷ w) → is_comma t ≡ true
+begins_further x t w s = comma_begins t (further_begun x (t ∷ w) s)
 
-arg_goes_on : (s : List ArgText) (t : Token) (rest : List Token) (answer : Answer Token (Unit {0}) (List ArgText)) → further_arg_at s (t ∷ rest) ≡ Some answer → GoesOnArgs t
-arg_goes_on s (tokens.Mark marks.Comma at) rest answer e = tt
-arg_goes_on s t rest answer e = absurd (none_is_some answer e)
-
-arg_more : (s : List ArgText) (t : Token) (rest : List Token) (answer : Answer Token (Unit {0}) (List ArgText)) → further_arg_at s (t ∷ rest) ≡ Some answer
-    → (further_at (t ∷ rest) >>= λ x. Ok (s ++ x.0 ∷ [], x.1)) ≡ answer
-unfolding further_at
-arg_more s (tokens.Mark marks.Comma at) rest answer e = cc
-arg_more s t rest answer e = absurd (none_is_some answer e)
-
-arg_ends : (s : List ArgText) (t : Token) (rest : List Token) → further_arg_at s (t ∷ rest) ≡ None → ¬ IsComma t
-arg_ends s (tokens.Mark marks.Comma at) rest e = absurd (cc)
-arg_ends s t rest e = λ impossible. impossible
-
-further_args : (s : List ArgText) → Reads (Steps (Item SpellsFurtherArg) s) GoesOnArgs (λ left. steps_at further_arg_at (length left) s left)
-further_args s =
-    loops.loop_reads SpellsFurtherArg IsOpen GoesOnArgs IsComma further_at further_reads further_arg_at further_begun comma_kept open_in_args (λ k. refl) arg_goes_on arg_more arg_ends s
+further_args : (before : List ArgText) → Reads (Added SpellsFurtherArg before) GoesOnArgs (more_at is_comma further_arg_at before)
+further_args =
+    items_added SpellsFurtherArg is_comma further_arg_at IsOpen GoesOnArgs further_reads (λ x s. further_begun x [] s) begins_further
+    comma_kept open_in_args comma_in_args
 
 args_reads : Reads SpellsArgs GoesOnArgs args_at
 args_reads =
-    in_words (Then SpellsArg (λ x. Steps (Item SpellsFurtherArg) (x ∷ []))) SpellsArgs GoesOnArgs args_at to back
-    (in_sequence SpellsArg (λ x. Steps (Item SpellsFurtherArg) (x ∷ [])) IsOpen GoesOnArgs apart arg_at (λ x. steps_at further_arg_at (length x.1) (x.0 ∷ []) x.1) arg_reads (λ x. further_args (x ∷ [])))
+    in_words (Then SpellsArg (λ x. Added SpellsFurtherArg (x ∷ []))) SpellsArgs GoesOnArgs args_at to back
+    (in_sequence SpellsArg (λ x. Added SpellsFurtherArg (x ∷ [])) IsOpen GoesOnArgs apart arg_at (λ x. more_at is_comma further_arg_at (x.0 ∷ []) x.1) arg_reads (λ x. further_args (x ∷ [])))
   where
-    apart : (x : ArgText) (now : List ArgText) (v z : List Token) → Steps (Item SpellsFurtherArg) (x ∷ []) now v → IsApart GoesOnArgs z → IsApart IsOpen (v ++ z)
-    apart x now v z steps far =
-        loops.apart_items SpellsFurtherArg IsOpen GoesOnArgs IsComma further_at further_reads further_arg_at further_begun comma_kept open_in_args (λ k. refl) arg_goes_on arg_more arg_ends
-        IsOpen comma_kept open_in_args (x ∷ []) now v z steps far
+    apart : (x : ArgText) (now : List ArgText) (v z : List Token) → Added SpellsFurtherArg (x ∷ []) now v → IsApart GoesOnArgs z → IsApart IsOpen (v ++ z)
+    apart x now [] z added far = apart_within IsOpen GoesOnArgs open_in_args z far
+    apart x now (t ∷ v) z (others, is, many) far =
+        comma_kept t
+        (first_of_items SpellsFurtherArg is_comma further_arg_at IsOpen GoesOnArgs further_reads (λ x s. further_begun x [] s) begins_further
+        comma_kept open_in_args comma_in_args others t v many)
 
-    to : (xs : List ArgText) (w : List Token) → Then SpellsArg (λ x. Steps (Item SpellsFurtherArg) (x ∷ [])) xs w → SpellsArgs xs w
-    to xs w (x, u, v, s, steps, cut) =
-        let others = items_of_steps SpellsFurtherArg (x ∷ []) xs v steps in
-        subst (λ l. SpellsArgs l w) (sym others.1) (u, v, s, others.2, cut)
+    to : (xs : List ArgText) (w : List Token) → Then SpellsArg (λ x. Added SpellsFurtherArg (x ∷ [])) xs w → SpellsArgs xs w
+    to xs w (x, u, v, s, (others, is, many), cut) = subst (λ l. SpellsArgs l w) (sym is) (u, v, s, many, cut)
 
-    back : (xs : List ArgText) (w : List Token) → SpellsArgs xs w → Then SpellsArg (λ x. Steps (Item SpellsFurtherArg) (x ∷ [])) xs w
+    back : (xs : List ArgText) (w : List Token) → SpellsArgs xs w → Then SpellsArg (λ x. Added SpellsFurtherArg (x ∷ [])) xs w
     back [] w s = absurd s
-    back (x ∷ xs) w (u, v, s, many, cut) = (x, u, v, s, steps_of_items SpellsFurtherArg (x ∷ []) xs v many, cut)
+    back (x ∷ xs) w (u, v, s, many, cut) = (x, u, v, s, (xs, refl, many), cut)
 
 -- phis
 
@@ -171,6 +162,9 @@ phi_begun name x w (p, u, v, word, others, cut) = front_begun IsPhi u v w (meant
 
 StmtForm : Span → Spelling Token ItemText
 StmtForm name = Then SpellsRight (λ right. Then (Meant (mark marks.Semicolon)) (λ e. Nothing (items.Stmt name right)))
+
+none_is_some : {A : Type 0} (x : A) → None ≡ Some x → ⊥
+none_is_some x e = cc
 
 semicolon_apart : (t : Token) → GoesOnForm t → mark marks.Semicolon t ≡ None
 semicolon_apart (tokens.Mark marks.Semicolon at) (op, e) = absurd (none_is_some op e)

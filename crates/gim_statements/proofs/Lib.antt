@@ -1,3 +1,4 @@
+-- Exactness, production by production.
 pub mod OperandsExact
 pub mod RightsExact
 pub mod ItemsExact

@@ -21,7 +21,7 @@ use Rattle.gim_text.specs.declared.tree.OperandText.{OperandText}
 use Rattle.gim_text.specs.declared.tree.OperandText.TheVariants as operands
 use Rattle.gim_words.specs.Types.{SpellsType, GoesOnType}
 use Rattle.gim_words.specs.TypeReaders.{type_at}
-use Rattle.gim_words.proofs.TypesExact.{some_type, type_exact}
+use Rattle.gim_words.proofs.TypesExact.{type_reads}
 use Rattle.gim_words.specs.Tokens.{plain_number}
 use Rattle.gim_words.specs.TokenReaders.{mark_at, keyword_at, name_at}
 use Rattle.grammar.proofs.EveryInput.{Reads, nothing, one_token, seen_by, after_token}
@@ -232,9 +232,6 @@ some_constant = record { value = bare some_signed_number.value; after = some_sig
     some_signed_number : Begins (SpellsSigned literal_number) []
     some_signed_number = some_signed literal_number some_literal_number number_is (λ t. ⊥)
 
-pub type_reads : Reads SpellsType GoesOnType (type_at)
-type_reads = record { some = some_type; exact = λ input. type_exact input }
-
 pub close_not_in_type : (t : Token) → GoesOnType t → mark marks.Close t ≡ None
 close_not_in_type (tokens.TypeWord word at) h = refl
 close_not_in_type t h = absurd h
@@ -252,7 +249,7 @@ written_reads : (more : Token → Type 0) → Reads AfterOpen more written_at
 unfolding AfterOpen AfterClose
 written_reads more =
     after_token (mark marks.Open) tt (some_mark marks.Open) (λ o. Then SpellsType AfterClose) more _ (λ o.
-    before_token SpellsType (mark marks.Close) (λ t k. Mapped (written t) (SpellsSigned plain_number)) GoesOnType more close_not_in_type (type_at) _ type_reads (λ t.
+    before_token SpellsType (mark marks.Close) (λ t k. Mapped (written t) (SpellsSigned plain_number)) GoesOnType more close_not_in_type type_at _ type_reads (λ t.
     after_token (mark marks.Close) tt (some_mark marks.Close) (λ k. Mapped (written t) (SpellsSigned plain_number)) more _ (λ k.
     seen_by (written t) (SpellsSigned plain_number) more (signed_at plain_number) (signed_reads plain_number some_plain_number plain_number_is more))))
 
@@ -285,9 +282,6 @@ constant_exact more (tokens.Keyword keywords.Literal at ∷ rest) =
         (k, u, v, word, (o, u1, v1, opened, (t, u2, v2, spelled, (p, u3, v3, close, ((negative, number), signed, refl), cut3), cut2), cut1), cut)
     back ty negative number w s start = absurd (same_begun StartsNumber (tokens.Keyword keywords.Literal at ∷ rest) w start (signed_begun negative (ty, number) w s))
 constant_exact more input = number_exact more input (λ begun. begun)
-
-constant_reads : (more : Token → Type 0) → Reads Constants more constant_at
-constant_reads more = record { some = some_constant; exact = λ input. constant_exact more input }
 
 -- constants with their first place
 

@@ -33,7 +33,8 @@ use Rattle.gim_statements.specs.Words.{prefix_code, infix_code, call_code, liter
 use Rattle.gim_statements.specs.Grammar.{Signed, SpellsConstant, SpellsOperand, BeginsWithNoNumber, MayStandUnder, SpellsForm, SpellsRight}
 use Rattle.gim_statements.specs.OperandReaders.{operand_at}
 use Rattle.gim_statements.specs.RightReaders.{prefixed_at, cast_at, call_at, choice_at, operated, continued_at, infix_at, form_at, right_at}
-use Rattle.gim_statements.proofs.OperandsExact.{IsOpen, IsMinus, IsName, IsNumber, StartsOperand, open_is, number_is, minus_is, name_begun, literal_word_begun, some_operand, operand_begun, operand_reads, type_reads, close_not_in_type, placed_exact}
+use Rattle.gim_words.proofs.TypesExact.{type_reads}
+use Rattle.gim_statements.proofs.OperandsExact.{IsOpen, IsMinus, IsName, IsNumber, StartsOperand, open_is, number_is, minus_is, name_begun, literal_word_begun, some_operand, operand_begun, operand_reads, close_not_in_type, placed_exact}
 
 -- what can go on a form: `(` after a name, an operator, `?`
 abbrev pub GoesOnForm : Token → Type 0
@@ -210,7 +211,7 @@ cast_reads : Reads CastForm GoesOnForm (λ input. mark_at marks.Open input >>= �
 unfolding CastForm AfterType
 cast_reads =
     after_token (mark marks.Open) tt (some_mark marks.Open) (λ o. Then SpellsType AfterType) GoesOnForm (λ o. cast_at o.1) (λ o.
-    before_token SpellsType (mark marks.Close) (λ t k. Mapped (forms.Cast t) SpellsOperand) GoesOnType GoesOnForm close_not_in_type (type_at) _ type_reads (λ t.
+    before_token SpellsType (mark marks.Close) (λ t k. Mapped (forms.Cast t) SpellsOperand) GoesOnType GoesOnForm close_not_in_type type_at _ type_reads (λ t.
     after_token (mark marks.Close) tt (some_mark marks.Close) (λ k. Mapped (forms.Cast t) SpellsOperand) GoesOnForm _ (λ k.
     widened (Mapped (forms.Cast t) SpellsOperand) IsOpen GoesOnForm _ open_goes_on (seen_by (forms.Cast t) SpellsOperand IsOpen operand_at operand_reads))))
 

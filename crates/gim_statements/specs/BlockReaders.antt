@@ -1,6 +1,7 @@
--- Readers of ends and blocks on lists of tokens.
-use Rattle.std.specs.Prelude.{Bool, true, false, if◌then◌else◌, List, [], ◌∷◌, ◌++◌, length, Option, Some, None, Ok}
-use Rattle.grammar.specs.Reading.{Answer, ◌>>=◌, meant_at, steps_at}
+-- Readers of ends and blocks on lists of tokens, between code and grammar: the contracts above rest on the grammar and the
+-- faults alone.
+use Rattle.std.specs.Prelude.{Bool, true, false, List, [], ◌∷◌, Option, Some, None, Ok}
+use Rattle.grammar.specs.Reading.{Answer, ◌>>=◌, meant_at, more_at}
 use Rattle.pm_places.specs.declared.span.Span.{Span}
 use Rattle.gim_text.specs.declared.token.Token.{Token}
 use Rattle.gim_text.specs.declared.token.Token.TheVariants as tokens
@@ -61,17 +62,13 @@ note_at (tokens.Mark marks.Comma at ∷ rest) = closing_at rest
 note_at input = mark_at marks.Close input
 
 -- a name begins an item
-abbrev pub begins_item : List Token → Bool
-begins_item (tokens.Identifier name ∷ rest) = true
-begins_item (tokens.Ssa name ∷ rest) = true
-begins_item input = false
-
--- an item more, where one begins
-abbrev pub further_item_at : List ItemText → List Token → Option (Answer Token (Unit {0}) (List ItemText))
-further_item_at items input = if begins_item input then Some (item_at input >>= λ x. Ok (items ++ x.0 ∷ [], x.1)) else None
+abbrev pub begins_item : Token → Bool
+begins_item (tokens.Identifier name) = true
+begins_item (tokens.Ssa name) = true
+begins_item token = false
 
 abbrev pub items_at : List Token → Answer Token (Unit {0}) (List ItemText)
-items_at input = steps_at further_item_at (length input) [] input
+items_at input = more_at begins_item item_at [] input
 
 abbrev pub block_at : List Token → Answer Token (Unit {0}) BlockText
 block_at input = do

@@ -1,6 +1,7 @@
--- Readers of phis and statements on lists of tokens.
-use Rattle.std.specs.Prelude.{List, [], ◌∷◌, ◌++◌, length, Option, Some, None, Ok}
-use Rattle.grammar.specs.Reading.{Answer, ◌>>=◌, steps_at}
+-- Readers of phis and statements on lists of tokens, between code and grammar: the contracts above rest on the grammar and
+-- the faults alone.
+use Rattle.std.specs.Prelude.{List, [], ◌∷◌, Ok}
+use Rattle.grammar.specs.Reading.{Answer, ◌>>=◌, more_at}
 use Rattle.pm_places.specs.declared.span.Span.{Span}
 use Rattle.gim_text.specs.declared.token.Token.{Token}
 use Rattle.gim_text.specs.declared.token.Token.TheVariants as tokens
@@ -9,7 +10,7 @@ use Rattle.gim_text.specs.declared.token.Mark.TheVariants as marks
 use Rattle.gim_text.specs.declared.tree.ArgText.{ArgText}
 use Rattle.gim_text.specs.declared.tree.ItemText.{ItemText}
 use Rattle.gim_text.specs.declared.tree.ItemText.TheVariants as items
-use Rattle.gim_words.specs.TokenReaders.{mark_at, name_at, block_word_at}
+use Rattle.gim_words.specs.TokenReaders.{mark_at, name_at, block_word_at, is_comma}
 use Rattle.gim_statements.specs.OperandReaders.{operand_at}
 use Rattle.gim_statements.specs.RightReaders.{right_at}
 
@@ -20,23 +21,14 @@ arg_at input = do
   a ← operand_at colon.1
   Ok (record { from = from.0; operand = a.0 }, a.1)
 
--- what stands after a comma
-abbrev pub after_comma : List Token → Option (List Token)
-after_comma (tokens.Mark marks.Comma at ∷ rest) = Some rest
-after_comma input = None
-
--- an argument more, where there is a comma
-abbrev pub with_arg : List ArgText → Option (List Token) → Option (Answer Token (Unit {0}) (List ArgText))
-with_arg args None = None
-with_arg args (Some rest) = Some (arg_at rest >>= λ x. Ok (args ++ x.0 ∷ [], x.1))
-
-abbrev pub further_arg_at : List ArgText → List Token → Option (Answer Token (Unit {0}) (List ArgText))
-further_arg_at args input = with_arg args (after_comma input)
+-- a comma and an argument
+abbrev pub further_arg_at : List Token → Answer Token (Unit {0}) ArgText
+further_arg_at input = mark_at marks.Comma input >>= λ comma. arg_at comma.1
 
 abbrev pub args_at : List Token → Answer Token (Unit {0}) (List ArgText)
 args_at input = do
   x ← arg_at input
-  steps_at further_arg_at (length x.1) (x.0 ∷ []) x.1
+  more_at is_comma further_arg_at (x.0 ∷ []) x.1
 
 -- what stands after `name = __PHI`
 abbrev pub phi_at : Span → List Token → Answer Token (Unit {0}) ItemText

@@ -1,3 +1,4 @@
+-- What a block and its parts are, and the readers on lists.
 pub mod Words
 pub mod Grammar
 pub mod OperandReaders

@@ -1,4 +1,5 @@
--- Readers of operands on lists of tokens.
+-- Readers of operands on lists of tokens, between code and grammar: the contracts above rest on the grammar and the faults
+-- alone.
 use Rattle.std.specs.Prelude.{Bool, true, false, List, [], ◌∷◌, Option, Ok, Err}
 use Rattle.grammar.specs.Reading.{Answer, ◌>>=◌, meant_at}
 use Rattle.pm_wide.specs.Types.{Ty}

@@ -1,4 +1,5 @@
--- Readers of right sides on lists of tokens.
+-- Readers of right sides on lists of tokens, between code and grammar: the contracts above rest on the grammar and the
+-- faults alone.
 use Rattle.std.specs.Prelude.{List, [], ◌∷◌, Option, Some, None, Ok, Err}
 use Rattle.grammar.specs.Reading.{Answer, ◌>>=◌}
 use Rattle.pm_ops.specs.declared.code.Code.{Code}

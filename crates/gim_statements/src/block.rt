@@ -3,6 +3,7 @@
 ghost use Rattle.std.specs.Prelude.{◌≡◌, ◌<◌, ◌≤◌, length, IfOk};
 ghost use Rattle.grammar.specs.Exact.{IsExact};
 ghost use Rattle.grammar.specs.Gives.{Gives, GivesInMemory};
+ghost use Rattle.grammar.specs.Reading.{first_is};
 ghost use Rattle.gim_statements.specs.Grammar.{SpellsBlock, GoesOnBlock};
 ghost use Rattle.gim_statements.specs.BlockReaders as readers;
 
@@ -27,7 +28,7 @@ fn read_note(tokens: &[Token]) -> Result<(Span, &[Token]), TokenFault<'_>>
 
 /// Whether a name begins a further item.
 fn begins_item(tokens: &[Token]) -> bool
-    ensures { result ≡ readers.begins_item tokens.now }
+    ensures { result ≡ first_is readers.begins_item tokens.now }
 {
     match tokens {
         [Token::Identifier(_), ..] | [Token::Ssa(_), ..] => true,

@@ -1,7 +1,9 @@
 //! Phis and statements.
 
-ghost use Rattle.std.specs.Prelude.{◌≡◌, ◌<◌, ◌≤◌, length, IfOk, IfSome, option_map};
+ghost use Rattle.std.specs.Prelude.{◌≡◌, ◌<◌, ◌≤◌, length, IfOk};
 ghost use Rattle.grammar.specs.Gives.{Gives, GivesInMemory};
+ghost use Rattle.grammar.specs.Reading.{first_is};
+ghost use Rattle.gim_words.specs.TokenReaders.{is_comma};
 ghost use Rattle.gim_statements.specs.ItemReaders as readers;
 
 use crate::operand::read_operand;
@@ -23,14 +25,22 @@ fn read_arg(tokens: &[Token]) -> Result<(ArgText, &[Token]), TokenFault<'_>>
     Ok((ArgText { from, operand }, rest))
 }
 
-/// What stands after a comma, where there is one.
-fn after_comma(tokens: &[Token]) -> Option<&[Token]>
-    ensures value { readers.after_comma tokens.now ≡ option_map (λ x. x.now) result }
-    ensures shorter { IfSome result (λ x. length x.now < length tokens.now) }
+/// A comma and an argument.
+fn read_further(tokens: &[Token]) -> Result<(ArgText, &[Token]), TokenFault<'_>>
+    ensures reads { Gives (λ x. (x.0, x.1.now)) result (readers.further_arg_at tokens.now) }
+    ensures shorter { IfOk result (λ x. length x.1.now < length tokens.now) }
+{
+    let (_, rest) = read_mark(Mark::Comma, tokens)?;
+    read_arg(rest)
+}
+
+/// Whether a comma stands here.
+fn begins_further(tokens: &[Token]) -> bool
+    ensures { result ≡ first_is is_comma tokens.now }
 {
     match tokens {
-        [Token::Mark(Mark::Comma, _), rest @ ..] => Some(rest),
-        _ => None,
+        [Token::Mark(Mark::Comma, _), ..] => true,
+        _ => false,
     }
 }
 
@@ -42,8 +52,8 @@ fn read_args(alloc: Global, tokens: &[Token]) -> Result<(Items<ArgText>, &[Token
     let (first, mut rest) = read!(read_arg(tokens));
     let mut args = Items::new(alloc);
     args.push(first)?;
-    while let Some(after) = after_comma(rest) {
-        let (arg, after) = read!(read_arg(after));
+    while begins_further(rest) {
+        let (arg, after) = read!(read_further(rest));
         args.push(arg)?;
         rest = after;
     }

@@ -91,6 +91,7 @@ fn read_written(tokens: &[Token]) -> Result<(Constant, &[Token]), TokenFault<'_>
     read_written_number(ty, rest)
 }
 
+/// A constant: a number with its sign, or `_Literal`, a type and a number.
 fn read_constant(tokens: &[Token]) -> Result<(Constant, &[Token]), TokenFault<'_>>
     ensures reads { Gives (λ x. (x.0, x.1.now)) result (readers.constant_at tokens.now) }
     ensures shorter { IfOk result (λ x. length x.1.now < length tokens.now) }

@@ -1,3 +1,5 @@
+//! Blocks, from their tokens.
+
 use crate::read_block;
 use gim_text::{
     ArgText, BlockText, EndText, ItemText, Keyword, LiteralText, LiteralType, Mark, NumberKind,
@@ -35,6 +37,7 @@ fn token_of(word: &str, number: usize) -> Token {
     }
 }
 
+/// The token of a mark, and else a name.
 fn mark_of(word: &str, at: Span) -> Token {
     match word {
         "(" => Token::Mark(Mark::Open, at),
@@ -78,6 +81,7 @@ fn form_of(alloc: Global, side: &str) -> Result<Option<RightForm>, AllocError> {
     }
 }
 
+/// The form of the only statement, where its right side starts at the block's eighth token.
 fn only_form(items: &[ItemText]) -> Option<RightForm> {
     match items {
         [
@@ -117,6 +121,7 @@ fn ends_too_early(alloc: Global, text: &str, from: usize) -> Result<bool, AllocE
     Ok(all)
 }
 
+/// Names, with `(D)` and without.
 #[test]
 fn names(rt: HostRuntime) -> Result<(), Fail> {
     let alloc = rt.alloc();
@@ -135,6 +140,7 @@ fn names(rt: HostRuntime) -> Result<(), Fail> {
     Ok(())
 }
 
+/// Constants with each suffix, a sign and a written type.
 #[test]
 fn constants(rt: HostRuntime) -> Result<(), Fail> {
     let alloc = rt.alloc();
@@ -163,6 +169,7 @@ fn constants(rt: HostRuntime) -> Result<(), Fail> {
     Ok(())
 }
 
+/// Operations of one operand, casts among them.
 #[test]
 fn operations_of_one(rt: HostRuntime) -> Result<(), Fail> {
     let alloc = rt.alloc();
@@ -190,6 +197,7 @@ fn operations_of_one(rt: HostRuntime) -> Result<(), Fail> {
     Ok(())
 }
 
+/// Operators between two operands, and calls of two.
 #[test]
 fn operations_of_two(rt: HostRuntime) -> Result<(), Fail> {
     let alloc = rt.alloc();
@@ -217,6 +225,7 @@ fn operations_of_two(rt: HostRuntime) -> Result<(), Fail> {
     Ok(())
 }
 
+/// A choice, and a copy.
 #[test]
 fn choices(rt: HostRuntime) -> Result<(), Fail> {
     assert!(rt;
@@ -245,6 +254,7 @@ const STATEMENTS: [&str; 6] = [
     "__BB ( 2 ) : x_1 = a ? b : c ;",
 ];
 
+/// Each front of a statement faults at its end.
 #[test]
 fn fronts_of_statements(rt: HostRuntime) -> Result<(), Fail> {
     for text in &STATEMENTS {
@@ -261,6 +271,7 @@ fn is_phi(items: &[ItemText]) -> bool {
     }
 }
 
+/// Whether there are two arguments, the second of them a constant.
 fn ends_in_a_constant(args: &[ArgText]) -> bool {
     match args {
         [_, second] => second.from.from == 18 && matches!(second.operand, OperandText::Literal(_)),
@@ -268,6 +279,7 @@ fn ends_in_a_constant(args: &[ArgText]) -> bool {
     }
 }
 
+/// A block with a phi of several arguments.
 #[test]
 fn block_of_a_phi(rt: HostRuntime) -> Result<(), Fail> {
     let alloc = rt.alloc();
@@ -288,6 +300,7 @@ fn block_of_a_phi(rt: HostRuntime) -> Result<(), Fail> {
     Ok(())
 }
 
+/// A block that ends in a branch.
 #[test]
 fn block_of_a_branch(rt: HostRuntime) -> Result<(), Fail> {
     let alloc = rt.alloc();
@@ -316,6 +329,7 @@ fn block_of_a_branch(rt: HostRuntime) -> Result<(), Fail> {
     Ok(())
 }
 
+/// A fault leaves the tokens from the offending one on.
 #[test]
 fn faults(rt: HostRuntime) -> Result<(), Fail> {
     let alloc = rt.alloc();

@@ -15,15 +15,17 @@ use Rattle.gim_text.specs.declared.token.Mark.TheVariants as marks
 use Rattle.gim_text.specs.declared.token.Keyword.TheVariants as keywords
 use Rattle.gim_text.specs.declared.tree.DeclText.{DeclText}
 use Rattle.gim_words.specs.TokenReaders.{mark_at, name_at}
-use Rattle.grammar.proofs.EveryInput.{Reads, seen_by, after_free, after_token, in_words}
-use Rattle.gim_words.proofs.TokensExact.{some_mark, mark_reads, name_reads}
+use Rattle.grammar.proofs.EveryInput.{Reads, seen_by, after_free, after_token, in_words, apart_before}
+use Rattle.gim_words.proofs.TokensExact.{some_mark, mark_reads, name_reads, comma_is}
 use Rattle.gim_words.specs.Types.{SpellsType, GoesOnType}
 use Rattle.gim_words.specs.TypeReaders.{type_at}
-use Rattle.gim_words.proofs.TypesExact.{type_not_empty, type_begins}
+use Rattle.gim_words.proofs.TypesExact.{type_not_empty, type_begins, type_reads}
 use Rattle.gim_syntax.specs.Grammar.{SpellsTyped, SpellsDecl, SpellsFurther, SpellsParams}
-use Rattle.gim_syntax.specs.Readers.{typed_at, decl_at, begins_type, decls_at, further_at, is_comma, and_item, more_at, param_list_at, params_at}
-use Rattle.gim_syntax.proofs.Items.{Added, items_added, items_read}
-use Rattle.gim_syntax.proofs.Tokens.{takes_token, begins_with, apart_before, type_reads}
+use Rattle.grammar.specs.Reading.{and_item, more_at}
+use Rattle.gim_words.specs.TokenReaders.{is_comma}
+use Rattle.gim_syntax.specs.Readers.{typed_at, decl_at, begins_type, decls_at, further_at, param_list_at, params_at}
+use Rattle.grammar.proofs.Items.{Added, items_added, items_read}
+use Rattle.grammar.proofs.Starts.{takes_token, begins_with}
 
 -- type ident
 
@@ -43,8 +45,8 @@ typed_reads =
     in_words (Then SpellsType Ident) SpellsTyped Never typed_at to back
     (apart_before SpellsType Ident GoesOnType Never
     (λ ty decl m. not_empty ty decl m) (λ ty decl t v m. apart ty decl t v m)
-    (type_at) (λ ty. name_at ty.1 >>= λ ident. Ok (decl_of ty.0 ident.0, ident.1)) type_reads
-    (λ ty. seen_by (decl_of ty) (Meant identifier) Never (name_at) (name_reads Never)))
+    type_at (λ ty. name_at ty.1 >>= λ ident. Ok (decl_of ty.0 ident.0, ident.1)) type_reads
+    (λ ty. seen_by (decl_of ty) (Meant identifier) Never name_at (name_reads Never)))
   where
     not_empty : (ty : Ty) (decl : DeclText) → Ident ty decl [] → ⊥
     not_empty ty decl (name, (t, is, one), same) = cc
@@ -137,10 +139,6 @@ further_reads =
 
 further_not_empty : (decl : DeclText) → SpellsFurther decl [] → ⊥
 further_not_empty decl (u, v, (at, meant), typed, cut) = takes_token (mark marks.Comma) at u v meant cut
-
-comma_is : (t : Token) (at : Span) → mark marks.Comma t ≡ Some at → is_comma t ≡ true
-comma_is (tokens.Mark marks.Comma place) at e = refl
-comma_is t at e = absurd (cc)
 
 further_begins : (decl : DeclText) (t : Token) (w : List Token) → SpellsFurther decl (t ∷ w) → is_comma t ≡ true
 further_begins decl t w (u, v, (at, meant), typed, cut) = comma_is t at (begins_with (mark marks.Comma) at t w u v meant cut)

@@ -5,7 +5,7 @@ use Rattle.gim_text.specs.declared.token.Token.{Token}
 use Rattle.grammar.proofs.EveryInput.{Reads}
 use Rattle.gim_syntax.specs.Grammar.{SpellsFunction, SpellsFile}
 use Rattle.gim_syntax.specs.Readers.{any_token, function_at, file_at}
-use Rattle.gim_syntax.proofs.Items.{items_read}
+use Rattle.grammar.proofs.Items.{items_read}
 use Rattle.gim_syntax.proofs.FunctionExact.{function_reads, function_not_empty}
 
 -- every token: a further function may begin at it, well or wrongly

@@ -15,11 +15,11 @@ use Rattle.gim_text.specs.declared.tree.DeclText.{DeclText}
 use Rattle.gim_text.specs.declared.tree.BlockText.{BlockText}
 use Rattle.gim_text.specs.declared.tree.FunctionText.{FunctionText}
 use Rattle.gim_words.specs.TokenReaders.{mark_at, keyword_at, name_at}
-use Rattle.grammar.proofs.EveryInput.{Reads, seen_by, after_free, after_token, in_words}
+use Rattle.grammar.proofs.EveryInput.{Reads, seen_by, after_free, after_token, in_words, apart_before}
 use Rattle.gim_words.proofs.TokensExact.{some_mark, some_keyword, mark_reads, name_reads}
 use Rattle.gim_words.specs.Types.{SpellsType, GoesOnType}
 use Rattle.gim_words.specs.TypeReaders.{type_at}
-use Rattle.gim_words.proofs.TypesExact.{type_not_empty}
+use Rattle.gim_words.proofs.TypesExact.{type_not_empty, type_reads}
 use Rattle.gim_statements.specs.Grammar.{SpellsBlock, GoesOnBlock}
 use Rattle.gim_statements.specs.BlockReaders.{block_at}
 use Rattle.gim_statements.proofs.BlocksExact.{block_reads}
@@ -27,8 +27,8 @@ use Rattle.gim_syntax.specs.declared.function.Head.{Head}
 use Rattle.gim_syntax.specs.declared.function.Body.{Body}
 use Rattle.gim_syntax.specs.Grammar.{SpellsDecl, SpellsParams, SpellsHead, SpellsParamsBetween, SpellsBody, SpellsFunction}
 use Rattle.gim_syntax.specs.Readers.{options_at, params_at, head_at, params_between_at, decls_at, begins_block, blocks_at, body_at, function_of, function_at}
-use Rattle.gim_syntax.proofs.Items.{items_read, first_of_items}
-use Rattle.gim_syntax.proofs.Tokens.{takes_token, begins_with, apart_before, type_reads}
+use Rattle.grammar.proofs.Items.{items_read, first_of_items}
+use Rattle.grammar.proofs.Starts.{takes_token, begins_with}
 use Rattle.gim_syntax.proofs.OptionsExact.{Options, options_reads}
 use Rattle.gim_syntax.proofs.DeclarationsExact.{GoesOnParams, params_reads, decls_reads}
 
@@ -54,7 +54,7 @@ gimple_then result =
     after_token (mark marks.Open) tt (some_mark marks.Open) (λ open_options. Then Options (λ close. AfterOptions result)) Never
     (λ open_options. options_at open_options.1 >>= λ options. name_at options.1 >>= λ name. Ok (head_of result name.0, name.1))
     (λ open_options. after_free Options (λ close. AfterOptions result) Never options_at (λ options. name_at options.1 >>= λ name. Ok (head_of result name.0, name.1)) options_reads
-    (λ close. seen_by (head_of result) (Meant identifier) Never (name_at) (name_reads Never)))
+    (λ close. seen_by (head_of result) (Meant identifier) Never name_at (name_reads Never)))
 
 no_type_gimple : (t : Token) (at : Span) → keyword keywords.Gimple t ≡ Some at → ¬ GoesOnType t
 no_type_gimple (tokens.TypeWord word place) at e = absurd (cc)
@@ -64,7 +64,7 @@ head_reads : Reads HeadParts Never head_at
 unfolding head_of
 head_reads =
     apart_before SpellsType AfterResult GoesOnType Never (λ result head m. not_empty result head m) (λ result head t v m. apart result head t v m)
-    (type_at)
+    type_at
     (λ result. keyword_at keywords.Gimple result.1 >>= λ gimple. mark_at marks.Open gimple.1 >>= λ open_options. options_at open_options.1 >>= λ options. name_at options.1 >>= λ name. Ok (head_of result.0 name.0, name.1))
     type_reads
     (λ result. after_token (keyword keywords.Gimple) tt (some_keyword keywords.Gimple) (λ gimple. AfterGimple result) Never

@@ -1,6 +1,4 @@
-pub mod ItemLoops
-pub mod Items
-pub mod Tokens
+-- Exactness from the option list up to the file, and its fault.
 pub mod OptionsExact
 pub mod DeclarationsExact
 pub mod FunctionExact

@@ -18,7 +18,7 @@ use Rattle.gim_words.proofs.BalancedExact.{closing_reads}
 use Rattle.gim_statements.specs.Grammar.{◌▸◌}
 use Rattle.gim_syntax.specs.Grammar.{HoldsSsa}
 use Rattle.gim_syntax.specs.Readers.{ssa_within, options_at}
-use Rattle.gim_syntax.proofs.Tokens.{somewhere}
+use Rattle.gim_words.proofs.TokensExact.{somewhere}
 
 -- the list and the place of its `)`
 abbrev pub Options : Span → List Token → Type 0
@@ -62,7 +62,7 @@ list_exact (suc depth) (tokens.Mark marks.Close at ∷ rest) =
     parts.from_token (Lists (suc depth)) (Lists depth) Never (tokens.Mark marks.Close at) rest (ssa_within depth rest >>= λ ssa. closing_at ssa.1)
     (λ x w s. s) (λ x w s. s) (λ x s. s) (list_exact depth rest)
 list_exact zero (tokens.Ssa at ∷ rest) =
-    parts.from_token (Lists zero) Closing Never (tokens.Ssa at) rest (closing_at rest) (λ x w s. s) (λ x w s. s) (λ x s. s) ((closing_reads).exact rest)
+    parts.from_token (Lists zero) Closing Never (tokens.Ssa at) rest (closing_at rest) (λ x w s. s) (λ x w s. s) (λ x s. s) (closing_reads.exact rest)
 list_exact depth (t ∷ rest) =
     parts.from_token (Lists depth) (Lists depth) Never t rest (ssa_within depth rest >>= λ ssa. closing_at ssa.1) (λ x w s. s) (λ x w s. s) (λ x s. s) (list_exact depth rest)
 

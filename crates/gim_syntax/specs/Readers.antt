@@ -1,6 +1,7 @@
--- Readers of functions and files on lists of tokens.
-use Rattle.std.specs.Prelude.{ℕ, zero, suc, List, [], ◌∷◌, ◌++◌, length, Bool, true, false, if◌then◌else◌, Option, Some, None, Ok, Err}
-use Rattle.grammar.specs.Reading.{Answer, ◌>>=◌, steps_at}
+-- Readers of functions and files on lists of tokens, between code and grammar: the contracts of `parse` and `read_syntax`
+-- and all above rest on the grammar and the faults alone.
+use Rattle.std.specs.Prelude.{ℕ, zero, suc, List, [], ◌∷◌, Bool, true, false, Ok, Err}
+use Rattle.grammar.specs.Reading.{Answer, ◌>>=◌, and_item, more_at}
 use Rattle.pm_places.specs.declared.span.Span.{Span}
 use Rattle.gim_text.specs.declared.token.Token.{Token}
 use Rattle.gim_text.specs.declared.token.Token.TheVariants as tokens
@@ -11,24 +12,9 @@ use Rattle.gim_text.specs.declared.tree.BlockText.{BlockText}
 use Rattle.gim_text.specs.declared.tree.FunctionText.{FunctionText}
 use Rattle.gim_syntax.specs.declared.function.Head.{Head}
 use Rattle.gim_syntax.specs.declared.function.Body.{Body}
-use Rattle.gim_words.specs.TokenReaders.{mark_at, keyword_at, name_at, closing_at}
+use Rattle.gim_words.specs.TokenReaders.{mark_at, keyword_at, name_at, closing_at, is_comma}
 use Rattle.gim_words.specs.TypeReaders.{type_at}
 use Rattle.gim_statements.specs.BlockReaders.{block_at}
-
--- items, as many as begin with such a token
-
-abbrev pub and_item : {A : Type 0} → List A → Answer Token (Unit {0}) A → Answer Token (Unit {0}) (List A)
-and_item before item = item >>= λ x. Ok (before ++ x.0 ∷ [], x.1)
-
-abbrev pub first_is : (Token → Bool) → List Token → Bool
-first_is begins [] = false
-first_is begins (t ∷ rest) = begins t
-
-abbrev pub item_step : {A : Type 0} → (Token → Bool) → (List Token → Answer Token (Unit {0}) A) → List A → List Token → Option (Answer Token (Unit {0}) (List A))
-item_step begins read before input = if first_is begins input then Some (and_item before (read input)) else None
-
-abbrev pub more_at : {A : Type 0} → (Token → Bool) → (List Token → Answer Token (Unit {0}) A) → List A → List Token → Answer Token (Unit {0}) (List A)
-more_at begins read before input = steps_at (item_step begins read) (length input) before input
 
 -- the option list, from behind its `(` on
 
@@ -69,10 +55,6 @@ decls_at input = more_at begins_type decl_at [] input
 
 abbrev pub further_at : List Token → Answer Token (Unit {0}) DeclText
 further_at input = mark_at marks.Comma input >>= λ comma. typed_at comma.1
-
-abbrev pub is_comma : Token → Bool
-is_comma (tokens.Mark marks.Comma at) = true
-is_comma token = false
 
 abbrev pub param_list_at : List Token → Answer Token (Unit {0}) (List DeclText)
 param_list_at input = and_item [] (typed_at input) >>= λ first. more_at is_comma further_at first.0 first.1

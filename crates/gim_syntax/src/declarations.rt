@@ -2,7 +2,9 @@
 
 ghost use Rattle.std.specs.Prelude.{◌≡◌, ◌<◌, ◌≤◌, length, IfOk};
 ghost use Rattle.grammar.specs.Gives.{GivesInMemory};
-ghost use Rattle.gim_syntax.specs.Readers.{and_item, first_is, begins_type, is_comma, typed_at, decl_at, decls_at, further_at, param_list_at, params_at};
+ghost use Rattle.grammar.specs.Reading.{and_item, first_is};
+ghost use Rattle.gim_words.specs.TokenReaders.{is_comma};
+ghost use Rattle.gim_syntax.specs.Readers.{begins_type, typed_at, decl_at, decls_at, further_at, param_list_at, params_at};
 
 use gim_text::{DeclText, Keyword, Mark, Token, TokenStop};
 use gim_words::{read_mark, read_name, read_type};

@@ -2,10 +2,11 @@
 
 ghost use Rattle.std.specs.Prelude.{◌≡◌, List, ◌≤◌, length, IfOk, IfErr};
 ghost use Rattle.grammar.specs.Gives.{GivesInMemory};
-ghost use Rattle.grammar.specs.Whole.{StopsFirst, whole_of};
+ghost use Rattle.grammar.specs.Whole.{StopsFirst};
 ghost use Rattle.gim_text.specs.declared.tree.FunctionText.{FunctionText};
 ghost use Rattle.gim_syntax.specs.Grammar.{SpellsFile};
-ghost use Rattle.gim_syntax.specs.Readers.{first_is, any_token, file_at};
+ghost use Rattle.grammar.specs.Reading.{first_is};
+ghost use Rattle.gim_syntax.specs.Readers.{any_token, file_at};
 
 use crate::function::take_function;
 use gim_text::{FunctionText, Token, TokenStop};
@@ -47,8 +48,6 @@ pub fn parse(alloc: Global, tokens: &[Token]) -> Result<Items<FunctionText>, Tok
     ensures only { (x : List FunctionText) → SpellsFile x tokens.now → GivesInMemory (λ y. y) result (Ok x) }
     // A fault is the first.
     ensures fault { IfErr result (StopsFirst SpellsFile tokens.now) }
-    // Of which kind a fault is.
-    ensures exact { GivesInMemory (λ x. x) result (whole_of tt (file_at tokens.now)) }
 {
     whole_in_memory(read_functions(alloc, tokens), ())
 }

@@ -4,7 +4,8 @@ ghost use Rattle.std.specs.Prelude.{◌≡◌, ◌<◌, ◌≤◌, length, IfOk}
 ghost use Rattle.grammar.specs.Gives.{Gives, GivesInMemory};
 ghost use Rattle.gim_statements.specs.BlockReaders.{block_at};
 ghost use Rattle.gim_syntax.specs.Readers as readers;
-ghost use Rattle.gim_syntax.specs.Readers.{and_item, first_is, head_at, params_between_at, blocks_at, body_at, function_at};
+ghost use Rattle.grammar.specs.Reading.{and_item, first_is};
+ghost use Rattle.gim_syntax.specs.Readers.{head_at, params_between_at, blocks_at, body_at, function_at};
 
 use crate::declarations::{read_decls, read_params};
 use crate::options::read_options;

@@ -1,9 +1,12 @@
+//! Files, from their tokens.
+
 use crate::read_syntax;
 use gim_text::{GimpleKind, Keyword, Mark, NumberKind, Token, TypeWord};
 use pm_places::Span;
 use std::alloc::Global;
 use std::test::Fail;
 
+/// The place of one byte.
 fn at(place: usize) -> Span {
     Span {
         from: place,
@@ -11,22 +14,27 @@ fn at(place: usize) -> Span {
     }
 }
 
+/// A mark.
 fn mark(kind: Mark, place: usize) -> Token {
     Token::Mark(kind, at(place))
 }
 
+/// A reserved word.
 fn word(keyword: Keyword, place: usize) -> Token {
     Token::Keyword(keyword, at(place))
 }
 
+/// The word `int`.
 fn int(place: usize) -> Token {
     Token::TypeWord(TypeWord::Int, at(place))
 }
 
+/// A name.
 fn name(place: usize) -> Token {
     Token::Identifier(at(place))
 }
 
+/// A number.
 fn number(kind: NumberKind, place: usize) -> Token {
     Token::Number(kind, at(place))
 }
@@ -73,6 +81,7 @@ fn fault_of(alloc: Global, tokens: &[Token]) -> Option<(GimpleKind, usize)> {
     }
 }
 
+/// Functions with and without parameters, locals and blocks.
 #[test]
 fn functions(rt: HostRuntime) -> Result<(), Fail> {
     // int __GIMPLE (ssa) f (int a, int b) { int c; __BB(2): return a; }
@@ -132,6 +141,7 @@ fn functions(rt: HostRuntime) -> Result<(), Fail> {
     Ok(())
 }
 
+/// What is refused in a block, and which name a fault has.
 #[test]
 fn faults_in_blocks(rt: HostRuntime) -> Result<(), Fail> {
     let alloc = rt.alloc();
@@ -179,6 +189,7 @@ fn faults_in_blocks(rt: HostRuntime) -> Result<(), Fail> {
     Ok(())
 }
 
+/// What is refused outside blocks.
 #[test]
 fn faults_outside_blocks(rt: HostRuntime) -> Result<(), Fail> {
     let alloc = rt.alloc();
@@ -211,6 +222,7 @@ fn faults_outside_blocks(rt: HostRuntime) -> Result<(), Fail> {
     Ok(())
 }
 
+/// A list without `ssa`, and one that is not closed.
 #[test]
 fn faults_of_options(rt: HostRuntime) -> Result<(), Fail> {
     let alloc = rt.alloc();

@@ -12,6 +12,7 @@ use Rattle.gim_words.specs.Tokens.{GoesOnNothing}
 use Rattle.gim_words.specs.Parentheses.{IsNoParenthesis, IsBalanced, none_left, further, paired, Closing}
 use Rattle.gim_words.specs.TokenReaders.{closing_within, closing_at}
 use Rattle.grammar.proofs.EveryInput.{Reads, in_words}
+use Rattle.gim_words.proofs.TokensExact.{somewhere}
 
 -- The `)` that closes what was opened before, within this many parentheses more: token by token.
 Closes : ℕ → Span → List Token → Type 0
@@ -20,9 +21,6 @@ Closes depth at (tokens.Mark marks.Open p ∷ w) = Closes (suc depth) at w
 Closes zero at (tokens.Mark marks.Close p ∷ w) = (at ≡ p) × (w ≡ [])
 Closes (suc depth) at (tokens.Mark marks.Close p ∷ w) = Closes depth at w
 Closes depth at (t ∷ w) = Closes depth at w
-
-somewhere : Span
-somewhere = record { from = 0; to = 0 }
 
 some_closing : (depth : ℕ) → Begins (Closes depth) []
 unfolding Closes

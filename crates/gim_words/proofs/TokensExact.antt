@@ -13,10 +13,10 @@ use Rattle.gim_text.specs.declared.token.Mark.TheVariants as marks
 use Rattle.gim_text.specs.declared.token.NumberKind.TheVariants.{Plain}
 use Rattle.gim_text.specs.Meanings.{same_mark, same_keyword, mark, keyword, identifier, block_word}
 use Rattle.gim_words.specs.Tokens.{plain_number, GoesOnNothing}
-use Rattle.gim_words.specs.TokenReaders.{mark_at, keyword_at, name_at, block_word_at, plain_number_at}
+use Rattle.gim_words.specs.TokenReaders.{mark_at, keyword_at, name_at, block_word_at, plain_number_at, is_comma}
 use Rattle.grammar.proofs.EveryInput.{Reads, one_token}
 
-somewhere : Span
+pub somewhere : Span
 somewhere = record { from = 0; to = 0 }
 
 each_mark : (m : Mark) → same_mark m m ≡ true
@@ -69,18 +69,10 @@ plain_number_exact input = meant plain_number tt GoesOnNothing some_plain_number
 pub mark_reads : (m : Mark) (more : Token → Type 0) → Reads (Meant (mark m)) more (mark_at m)
 mark_reads m more = one_token (mark m) tt more (some_mark m)
 
--- Each reserved word.
-pub keyword_reads : (k : Keyword) (more : Token → Type 0) → Reads (Meant (keyword k)) more (keyword_at k)
-keyword_reads k more = one_token (keyword k) tt more (some_keyword k)
-
 -- A name.
 pub name_reads : (more : Token → Type 0) → Reads (Meant identifier) more name_at
 name_reads more = one_token identifier tt more some_name
 
--- `__BB` and a number in one word.
-pub block_word_reads : (more : Token → Type 0) → Reads (Meant block_word) more block_word_at
-block_word_reads more = one_token block_word tt more some_block_word
-
--- A number of digits alone.
-pub plain_number_reads : (more : Token → Type 0) → Reads (Meant plain_number) more plain_number_at
-plain_number_reads more = one_token plain_number tt more some_plain_number
+pub comma_is : (t : Token) (at : Span) → mark marks.Comma t ≡ Some at → is_comma t ≡ true
+comma_is (tokens.Mark marks.Comma p) at e = refl
+comma_is t at e = absurd (cc)

@@ -4,6 +4,7 @@ use Rattle.grammar.specs.Spelling.{Begins, Driven}
 use Rattle.grammar.specs.Exact.{IsExact}
 use Rattle.grammar.proofs.Parts.{in_words}
 use Rattle.grammar.proofs.Machine.{driven}
+use Rattle.grammar.proofs.EveryInput.{Reads}
 use Rattle.pm_wide.specs.Types.{Ty, bool_type, int_type}
 use Rattle.gim_text.specs.declared.token.Token.{Token}
 use Rattle.gim_text.specs.declared.token.Token.TheVariants as tokens
@@ -41,6 +42,9 @@ pub type_exact : (input : List Token) → IsExact SpellsType GoesOnType input (t
 type_exact input =
     in_words (Driven type_words_after type_of (SaysInteger NoSign NoSize)) SpellsType GoesOnType input (type_at input) type_of_machine machine_of_type
     (driven type_words_after type_of tt GoesOnType only_words completed (SaysInteger NoSign NoSize) input)
+
+pub type_reads : Reads SpellsType GoesOnType type_at
+type_reads = record { some = some_type; exact = λ input. type_exact input }
 
 -- a type has a word
 pub type_not_empty : (t : Ty) → SpellsType t [] → ⊥

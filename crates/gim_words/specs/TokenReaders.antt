@@ -1,6 +1,6 @@
 -- Readers of single tokens on lists of tokens, and of what stands in parentheses and is dropped. They stand between code
--- and grammar alone: what `exact` says of them, and what a whole file's contract says, rests on the grammar.
-use Rattle.std.specs.Prelude.{ℕ, zero, suc, List, [], ◌∷◌, Option, Some, None, Ok, Err}
+-- and grammar: the contracts above rest on the grammar and the faults alone.
+use Rattle.std.specs.Prelude.{ℕ, zero, suc, Bool, true, false, List, [], ◌∷◌, Option, Some, None, Ok, Err}
 use Rattle.grammar.specs.Reading.{Answer, meant_at}
 use Rattle.pm_places.specs.declared.span.Span.{Span}
 use Rattle.gim_text.specs.declared.token.Token.{Token}
@@ -41,3 +41,8 @@ closing_within depth (t ∷ rest) = closing_within depth rest
 
 abbrev pub closing_at : List Token → Answer Token (Unit {0}) Span
 closing_at input = closing_within zero input
+
+-- a further item of a list with commas begins so
+abbrev pub is_comma : Token → Bool
+is_comma (tokens.Mark marks.Comma at) = true
+is_comma token = false

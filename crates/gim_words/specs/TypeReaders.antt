@@ -1,4 +1,5 @@
--- The reader of a type on lists of tokens: a machine that goes by what the words so far say.
+-- The reader of a type on lists of tokens: a machine that goes by what the words so far say. It stands between code and
+-- grammar: the contracts above rest on the grammar and the faults alone.
 use Rattle.std.specs.Prelude.{List, Option, Some, None}
 use Rattle.grammar.specs.Reading.{Answer, driven_at}
 use Rattle.pm_wide.specs.Types.{Ty, bool_type, signed_char_type, unsigned_char_type, short_type, unsigned_short_type, int_type, unsigned_int_type, long_type, unsigned_long_type, int128_type, unsigned_int128_type}

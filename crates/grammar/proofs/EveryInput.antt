@@ -47,6 +47,18 @@ in_sequence N M more_first more far read next first second = record {
   exact = λ tokens. sequences.then N M more_first more far (λ x u n. (second x).some) tokens (read tokens) next (first.exact tokens) (λ x rest e. (second x).exact rest);
 }
 
+-- a part before one that takes a token, which does not go on the first
+pub apart_before : {T E A B : Type 0} (N : Spelling T A) (M : A → Spelling T B) (more_first more : T → Type 0)
+    → ((x : A) (y : B) → M x y [] → ⊥) → ((x : A) (y : B) (t : T) (v : List T) → M x y (t ∷ v) → ¬ more_first t)
+    → (read : List T → Answer T E A) (next : A × List T → Answer T E B) → Reads N more_first read → ((x : A) → Reads (M x) more (λ rest. next (x, rest)))
+    → Reads (Then N M) more (λ tokens. read tokens >>= next)
+apart_before N M more_first more never_empty apart read next first second = record {
+  some = some_sequence N M first.some (λ x. (second x).some);
+  exact = λ tokens.
+      sequences.then_apart N M more_first more never_empty apart (λ x. (second x).some) tokens (read tokens) next (first.exact tokens)
+      (λ x rest e. (second x).exact rest);
+}
+
 apart_never : {T : Type 0} (tokens : List T) → IsApart Never tokens
 apart_never [] = tt
 apart_never (t ∷ rest) = λ impossible. impossible

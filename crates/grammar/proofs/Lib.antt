@@ -12,3 +12,4 @@ pub mod WholeInput
 pub mod EveryInput
 pub mod Starts
 pub mod Items
+pub mod ItemLoops

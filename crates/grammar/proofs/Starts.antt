@@ -46,6 +46,16 @@ first_meant meaning x t w u v (s, has, one) cut =
     let both : t ∷ w ≡ s ∷ v = cut ∙ ap (λ l. l ++ v) one in
     (ap meaning (same_head t s w v both) ∙ has, sym (same_tail t s w v both))
 
+-- a text whose first part is a token takes one, and begins with it
+pub takes_token : {T A : Type 0} (meaning : T → Option A) (x : A) (u v : List T) → Meant meaning x u → [] ≡ u ++ v → ⊥
+takes_token {T = T} meaning x u v (t, is, one) cut = no_token v (cut ∙ ap (λ l. l ++ v) one)
+  where
+    no_token : (v : List T) → [] ≡ t ∷ v → ⊥
+    no_token v e = cc
+
+pub begins_with : {T A : Type 0} (meaning : T → Option A) (x : A) (first : T) (w u v : List T) → Meant meaning x u → first ∷ w ≡ u ++ v → meaning first ≡ Some x
+begins_with meaning x first w u v meant cut = (first_meant meaning x first w u v meant cut).0
+
 -- a part before a token that has a meaning and does not go on the part
 pub before_token : {T E A B C : Type 0} (N : Spelling T A) (meaning : T → Option C) (M : A → C → Spelling T B) (more_first more : T → Type 0)
     → ((t : T) → more_first t → meaning t ≡ None)

@@ -1,3 +1,4 @@
+-- What a grammar spells, what a reader answers, and when its answers are exact.
 pub mod Spelling
 pub mod Reading
 pub mod Exact

@@ -1,6 +1,6 @@
 -- Readers on lists of tokens. A reader answers a value and the rest after it, or the kind of a fault and the
 -- rest from the offending token on.
-use Rattle.std.specs.Prelude.{ℕ, zero, suc, List, [], ◌∷◌, Option, Some, None, Result, Ok, Err}
+use Rattle.std.specs.Prelude.{ℕ, zero, suc, Bool, false, if◌then◌else◌, List, [], ◌∷◌, ◌++◌, length, Option, Some, None, Result, Ok, Err}
 
 -- what a reader answers: E is the kind of a fault
 abbrev pub Answer : Type 0 → Type 0 → Type 0 → Type 0
@@ -51,3 +51,18 @@ stays_or here (Some answer) further = answer >>= further
 abbrev pub steps_at : {T S E : Type 0} → (S → List T → Option (Answer T E S)) → ℕ → S → List T → Answer T E S
 steps_at step zero s tokens = Ok (s, tokens)
 steps_at step (suc n) s tokens = stays_or (s, tokens) (step s tokens) (λ x. steps_at step n x.0 x.1)
+
+-- an item, put at the end of those before
+abbrev pub and_item : {T E A : Type 0} → List A → Answer T E A → Answer T E (List A)
+and_item before item = item >>= λ x. Ok (before ++ x.0 ∷ [], x.1)
+
+abbrev pub first_is : {T : Type 0} → (T → Bool) → List T → Bool
+first_is begins [] = false
+first_is begins (t ∷ rest) = begins t
+
+-- items, as many as begin with such a token, put at the end of those before
+abbrev pub item_step : {T E A : Type 0} → (T → Bool) → (List T → Answer T E A) → List A → List T → Option (Answer T E (List A))
+item_step begins read before tokens = if first_is begins tokens then Some (and_item before (read tokens)) else None
+
+abbrev pub more_at : {T E A : Type 0} → (T → Bool) → (List T → Answer T E A) → List A → List T → Answer T E (List A)
+more_at begins read before tokens = steps_at (item_step begins read) (length tokens) before tokens

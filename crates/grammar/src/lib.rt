@@ -5,5 +5,5 @@ pub mod laws;
 mod reading;
 mod stop;
 
-pub use reading::{whole, whole_in_memory};
+pub use reading::whole_in_memory;
 pub use stop::{Fault, Stop};

@@ -1,3 +1,5 @@
+//! What a reader of tokens answers where it stops.
+
 ghost use Rattle.std.specs.Prelude.{◌≡◌};
 ghost use Rattle.grammar.specs.declared.stop.Stop.TheVariants as stops;
 
@@ -21,6 +23,7 @@ pub enum Stop<'a, T, E> {
     Fault(Fault<'a, T, E>),
 }
 
+/// A fault of a part that takes no memory.
 impl<'a, T, E> From<Fault<'a, T, E>> for Stop<'a, T, E> {
     ghost from_gives = { λ fault e. e ≡ stops.Fault fault };
 
@@ -29,6 +32,7 @@ impl<'a, T, E> From<Fault<'a, T, E>> for Stop<'a, T, E> {
     }
 }
 
+/// Want of memory.
 impl<T, E> From<AllocError> for Stop<'_, T, E> {
     ghost from_gives = { λ _ e. e ≡ stops.Memory };
 
@@ -37,6 +41,7 @@ impl<T, E> From<AllocError> for Stop<'_, T, E> {
     }
 }
 
+/// Want of memory, where a value could not be placed.
 impl<X: Drop, T, E> From<AllocFailed<X>> for Stop<'_, T, E> {
     ghost from_gives = { λ _ e. e ≡ stops.Memory };
 

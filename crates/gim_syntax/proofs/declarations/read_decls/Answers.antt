@@ -1,7 +1,8 @@
+-- What the search leaves of the contract of `read_decls`.
 use Rattle.std.proofs.Common.{sym, ◌∙◌}
 use Rattle.std.proofs.lemmas.Result.{err_from_is_err_and}
 use Rattle.gim_syntax.specs.Readers.{begins_type, decl_at, decls_at}
-use Rattle.gim_syntax.proofs.ItemLoops.{stops}
+use Rattle.grammar.proofs.ItemLoops.{stops}
 use Rattle.gim_syntax.proofs.declarations.read_decls.Goals as goal
 
 pub returns-in_err-rest-clause-reads : goal.returns-in_err-rest-clause-reads

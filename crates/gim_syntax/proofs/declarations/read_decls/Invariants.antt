@@ -1,6 +1,8 @@
+-- What the loop of `read_decls` keeps.
 use Rattle.std.proofs.Common.{◌≤◌, length}
 use Rattle.grammar.proofs.Loops.{StillRuns}
-use Rattle.gim_syntax.specs.Readers.{item_step, begins_type, decl_at, decls_at}
+use Rattle.grammar.specs.Reading.{item_step}
+use Rattle.gim_syntax.specs.Readers.{begins_type, decl_at, decls_at}
 use Rattle.gim_syntax.proofs.declarations.read_decls.Given as goal
 
 abbrev pub invariant-loop-decls : goal.invariant-loop-decls

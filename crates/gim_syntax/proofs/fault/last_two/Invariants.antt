@@ -1,3 +1,4 @@
+-- What the loop of `last_two` keeps.
 use Rattle.std.proofs.Common.{◌≡◌, length}
 use Rattle.gim_syntax.specs.SyntaxFaults.{last_two_after, last_two}
 use Rattle.gim_syntax.proofs.fault.last_two.Given as goal

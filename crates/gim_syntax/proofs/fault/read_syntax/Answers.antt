@@ -1,3 +1,4 @@
+-- What the search leaves of the contract of `read_syntax`.
 use Rattle.std.proofs.Common.{ap, subst, ◌∙◌}
 use Rattle.grammar.specs.Whole.{StopsFirst}
 use Rattle.gim_syntax.specs.Grammar.{SpellsFile}

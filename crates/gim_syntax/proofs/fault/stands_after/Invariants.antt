@@ -1,3 +1,4 @@
+-- What the loop of `stands_after` keeps.
 use Rattle.std.proofs.Common.{◌≡◌, ◌+◌, ◌≤◌, length, None}
 use Rattle.gim_syntax.specs.SyntaxFaults.{last_after, depth_after, outside_after, outside_parentheses, block_after, is_in_block}
 use Rattle.gim_syntax.proofs.fault.stands_after.Given as goal

@@ -1,3 +1,4 @@
+-- What the search leaves of the contract of `parse`.
 use Rattle.grammar.specs.Whole.{whole_of}
 use Rattle.grammar.proofs.WholeInput.{whole, found_in_memory, only_in_memory, fault_in_memory}
 use Rattle.gim_syntax.specs.Grammar.{SpellsFile}

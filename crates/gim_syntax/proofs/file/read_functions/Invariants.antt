@@ -1,6 +1,8 @@
+-- What the loop of `read_functions` keeps.
 use Rattle.std.proofs.Common.{◌≤◌, length}
 use Rattle.grammar.proofs.Loops.{StillRuns}
-use Rattle.gim_syntax.specs.Readers.{item_step, any_token, function_at, file_at}
+use Rattle.grammar.specs.Reading.{item_step}
+use Rattle.gim_syntax.specs.Readers.{any_token, function_at, file_at}
 use Rattle.gim_syntax.proofs.file.read_functions.Given as goal
 
 abbrev pub invariant-loop-alloc : goal.invariant-loop-alloc

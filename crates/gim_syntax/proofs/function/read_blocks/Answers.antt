@@ -1,8 +1,9 @@
+-- What the search leaves of the contract of `read_blocks`.
 use Rattle.std.proofs.Common.{sym, ◌∙◌}
 use Rattle.std.proofs.lemmas.Result.{err_from_is_err_and}
 use Rattle.gim_statements.specs.BlockReaders.{block_at}
 use Rattle.gim_syntax.specs.Readers.{begins_block, blocks_at}
-use Rattle.gim_syntax.proofs.ItemLoops.{stops, ends}
+use Rattle.grammar.proofs.ItemLoops.{stops, ends}
 use Rattle.gim_syntax.proofs.function.read_blocks.Goals as goal
 
 pub returns-clause-reads : goal.returns-clause-reads

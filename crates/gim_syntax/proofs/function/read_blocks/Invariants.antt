@@ -1,7 +1,9 @@
+-- What the loop of `read_blocks` keeps.
 use Rattle.std.proofs.Common.{◌≤◌, length}
 use Rattle.grammar.proofs.Loops.{StillRuns}
 use Rattle.gim_statements.specs.BlockReaders.{block_at}
-use Rattle.gim_syntax.specs.Readers.{item_step, begins_block, blocks_at}
+use Rattle.grammar.specs.Reading.{item_step}
+use Rattle.gim_syntax.specs.Readers.{begins_block, blocks_at}
 use Rattle.gim_syntax.proofs.function.read_blocks.Given as goal
 
 abbrev pub invariant-loop-alloc : goal.invariant-loop-alloc

@@ -1,3 +1,4 @@
+-- What the loop of `read_ssa` keeps.
 use Rattle.std.proofs.Common.{◌≡◌, ◌+◌, ◌≤◌, length}
 use Rattle.gim_syntax.specs.Readers.{ssa_at, ssa_within}
 use Rattle.gim_syntax.proofs.options.read_ssa.Given as goal

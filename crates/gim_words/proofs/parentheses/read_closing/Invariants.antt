@@ -1,3 +1,4 @@
+-- What the loop of `read_closing` keeps.
 use Rattle.std.proofs.Common.{◌≡◌, ◌+◌, ◌≤◌, length}
 use Rattle.gim_words.specs.TokenReaders.{closing_at, closing_within}
 use Rattle.gim_words.proofs.parentheses.read_closing.Given as goal

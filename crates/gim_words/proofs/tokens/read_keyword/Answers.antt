@@ -1,3 +1,4 @@
+-- What the search leaves of the contract of `read_keyword`.
 use Rattle.gim_words.proofs.TokensExact.{keyword_exact}
 use Rattle.gim_words.proofs.tokens.read_keyword.Goals as goal
 

@@ -1,3 +1,4 @@
+-- What the search leaves of the contract of `read_mark`.
 use Rattle.gim_words.proofs.TokensExact.{mark_exact}
 use Rattle.gim_words.proofs.tokens.read_mark.Goals as goal
 

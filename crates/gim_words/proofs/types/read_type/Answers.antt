@@ -1,3 +1,4 @@
+-- What the search leaves of the contract of `read_type`.
 use Rattle.gim_words.proofs.TypesExact.{type_exact}
 use Rattle.gim_words.proofs.types.read_type.Goals as goal
 

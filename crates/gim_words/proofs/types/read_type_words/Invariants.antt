@@ -1,3 +1,4 @@
+-- What the loop of `read_type_words` keeps.
 use Rattle.std.proofs.Common.{◌≡◌, ◌≤◌, length}
 use Rattle.grammar.specs.Reading.{run}
 use Rattle.gim_words.specs.TypeReaders.{type_words_after}

@@ -1,3 +1,4 @@
+-- What the search leaves of the contract of `exact_answers_read`.
 use Rattle.grammar.proofs.WholeInput.{whole}
 use Rattle.grammar.proofs.laws.exact_answers_read.Goals as goal
 

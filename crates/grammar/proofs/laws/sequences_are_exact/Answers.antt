@@ -1,3 +1,4 @@
+-- What the search leaves of the contract of `sequences_are_exact`.
 use Rattle.grammar.proofs.Sequence.{then}
 use Rattle.grammar.proofs.laws.sequences_are_exact.Goals as goal
 
