@@ -3,12 +3,11 @@ use Rattle.std.proofs.Common.{◌≡◌, ℕ, zero, suc, ◌+◌, ◌-◌, ◌<�
 use Rattle.std.specs.Prelude.{not, ◌||◌, ◌&&◌}
 use Rattle.std.specs.Borrow.{Bor}
 use Rattle.std.specs.HashSet.{HashSet}
-use Rattle.std.specs.List.{list_any}
+use Rattle.std.specs.List.{list_any, cons_option}
 use Rattle.std.specs.Map.{lookup}
 use Rattle.std.specs.Cmp.Lexicographic.{nat_list_eq_equiv, bytes_decides}
 use Rattle.std.proofs.lemmas.Bool.{and_parts, and_from, not-true, not_from_false}
 use Rattle.gim_ast.specs.WellFormed.{same_text}
-use Rattle.gim_names.specs.Parts.{with_some}
 use Rattle.gim_names.specs.Rules.{has_other_second, differs}
 use Rattle.gim_names.specs.Tables.{HasTexts, have_one_each}
 
@@ -66,7 +65,7 @@ other_some key value found (p ∷ pairs) one e =
     (λ h. other_some key value found pairs t.1 h) e
 
 -- one more pair that differs from none
-pub one_more : (o : Option (List ℕ × List ℕ)) (pairs : List (List ℕ × List ℕ)) → differs o pairs ≡ false → have_one_each pairs ≡ true → have_one_each (with_some o pairs) ≡ true
+pub one_more : (o : Option (List ℕ × List ℕ)) (pairs : List (List ℕ × List ℕ)) → differs o pairs ≡ false → have_one_each pairs ≡ true → have_one_each (cons_option o pairs) ≡ true
 one_more None pairs d one = one
 one_more (Some p) pairs d one = and_from (not (list_any (has_other_second p.0 p.1) pairs)) (have_one_each pairs) (not_from_false (list_any (has_other_second p.0 p.1) pairs) d) one
 
