@@ -12,7 +12,6 @@ use Rattle.gim_text.specs.declared.fault.GimpleKind.TheVariants.{Memory, Lex, Sy
 use Rattle.gim_text.specs.declared.tree.FunctionText.{FunctionText}
 use Rattle.gim_text.specs.Faults.{fault_at, or_fault, IsFault, Judges}
 use Rattle.gim_text.specs.declared.occurrence.Occurrence.{Occurrence}
-use Rattle.gim_text.specs.declared.occurrence.Occurrence.TheVariants.{Parameter}
 use Rattle.gim_names.specs.declared.past.Past.{Past}
 use Rattle.gim_text.specs.Occurrences.{place_of, occurrences_of}
 use Rattle.gim_names.specs.Parts.{version_base, base_default}
@@ -56,10 +55,6 @@ judges_err (Ok x) fault expected h is = absurd h
 judges_err (Err e) fault expected h is = subst (λ (f : GimpleFault). IsFault f.kind f expected) (sym h) is
 
 -- ---- occurrences
-
--- what stands outside a list of occurrences
-abbrev pub outside : Occurrence
-outside = Parameter (record { from = 0; to = 0 })
 
 not_redefined : (r u w : Bool) → first_kind r u w ≡ None → r ≡ false
 not_redefined true u w e = absurd cc

@@ -1,9 +1,8 @@
 -- What the occurrences of a function declare is what it declares.
-use Rattle.std.proofs.Common.{◌≡◌, ℕ, List, [], ◌++◌, Option, refl, ◌∙◌}
+use Rattle.std.proofs.Common.{◌≡◌, ℕ, List, [], ◌++◌, refl, ◌∙◌}
 use Rattle.std.proofs.lemmas.List.{append-nil}
 use Rattle.gim_text.specs.declared.tree.FunctionText.{FunctionText}
-use Rattle.gim_text.specs.declared.occurrence.Occurrence.{Occurrence}
-use Rattle.gim_text.proofs.OccurrenceLemmas.{each_says, none_says, IsOfHeads, said_at_heads}
+use Rattle.gim_text.proofs.OccurrenceLemmas.{each_says, none_says, said_at_heads}
 use Rattle.gim_names.specs.Parts.{param_text, local_text, declared_text, block_number}
 use Rattle.gim_names.specs.Kept.{ident_text, params_of, locals_of, number_text, OccurrencesDeclare}
 

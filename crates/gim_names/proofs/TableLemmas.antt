@@ -71,12 +71,13 @@ one_more (Some p) pairs d one = and_from (not (list_any (has_other_second p.0 p.
 
 -- ---- places
 
-pub item_at : {X : Type 0} (xs : List X) (i : ℕ) (d : X) → i < length xs → drop i xs ≡ get_or xs i d ∷ drop (i + 1) xs
-item_at xs i d lt = rw add-one (drop-cons xs i d lt)
-
-pub item_before : {X : Type 0} (xs : List X) (at : ℕ) (d : X) → 0 < at → at ≤ length xs → drop (at - 1) xs ≡ get_or xs (at - 1) d ∷ drop at xs
-item_before xs zero d some within = absurd (omega arith)
-item_before xs (suc at) d some within = let e : suc at - 1 ≡ at = omega arith in rw e (drop-cons xs at d (omega arith))
+-- the list from the place before on
+pub item_before : {X : Type 0} (xs : List X) (at : ℕ) (x : X) → 0 < at → at ≤ length xs → x ≡ get_or xs (at - 1) x → drop (at - 1) xs ≡ x ∷ drop at xs
+item_before xs zero x some within is = absurd (omega arith)
+item_before xs (suc at) x some within is =
+    let e : suc at - 1 ≡ at = omega arith in
+    let here : x ≡ get_or xs at x = subst (λ i. x ≡ get_or xs i x) e is in
+    rw e (drop-cons xs at x (omega arith) ∙ ap (λ y. y ∷ drop (suc at) xs) (sym here))
 
 pub drop_all : {X : Type 0} (xs : List X) → drop (length xs) xs ≡ []
 drop_all [] = refl
@@ -92,4 +93,4 @@ pub none_has : {S : Type 0} (set : HashSet (Bor (List ℕ)) S) → set.keys ≡ 
 none_has set e q = rw e refl
 
 pub item_is : {X : Type 0} (xs : List X) (i : ℕ) (x : X) → i < length xs → x ≡ get_or xs i x → drop i xs ≡ x ∷ drop (i + 1) xs
-item_is xs i x lt is = item_at xs i x lt ∙ ap (λ y. y ∷ drop (i + 1) xs) (sym is)
+item_is xs i x lt is = rw add-one (drop-cons xs i x lt) ∙ ap (λ y. y ∷ drop (i + 1) xs) (sym is)
