@@ -1,5 +1,0 @@
-use Rattle.gim_names.proofs.KeptParts.{are_one}
-use Rattle.gim_names.proofs.laws.mentions_are_one.Goals as goal
-
-pub returns : goal.returns
-returns c = are_one
