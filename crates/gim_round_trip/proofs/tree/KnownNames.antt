@@ -1,0 +1,180 @@
+-- What the declarations in a tree give to the names and operands of the function that it writes.
+use Rattle.std.proofs.Common.{◌≡◌, ℕ, true, false, cond, Some, None, List, [], ◌∷◌, ◌++◌, map, refl, sym, ap, subst, ◌∙◌, inl, inr}
+use Rattle.std.specs.Prelude.{◌&&◌, ◌||◌, not}
+use Rattle.std.specs.List.{AllZip, AllByRecursion, list_any}
+use Rattle.std.specs.Option.{option_or, unwrap_or}
+use Rattle.std.specs.Fmt.{decimal}
+use Rattle.std.proofs.lemmas.Bool.{and_parts, and_from, or_cases, not-true, false_from_ne_true}
+use Rattle.std.proofs.lemmas.List.{map-append}
+use Rattle.pm_wide.specs.Types.{Ty, same_type, bool_type}
+use Rattle.pm_wide.specs.declared.operand.Operand.{Operand}
+use Rattle.pm_wide.specs.declared.operand.Operand.TheVariants as operands
+use Rattle.pm_wide.proofs.Results.{same_type_is}
+use Rattle.gim_ast.specs.declared.function.Function.{Function}
+use Rattle.gim_ast.specs.declared.function.Decl.{Decl}
+use Rattle.gim_ast.specs.declared.function.NameRow.{NameRow}
+use Rattle.gim_ast.specs.Functions.{operands_of, row_of}
+use Rattle.gim_ast.specs.Identifiers.{anonymous}
+use Rattle.gim_ast.specs.Printing.{assigned_text}
+use Rattle.gim_ast.specs.WellFormed.{IsWellFormed, same_text, all_distinct, ident_of, declares_as, base_holds}
+use Rattle.gim_text.specs.declared.token.Span.{Span}
+use Rattle.gim_text.specs.declared.tree.DeclText.{DeclText}
+use Rattle.gim_text.specs.declared.tree.FunctionText.{FunctionText}
+use Rattle.gim_text.specs.declared.tree.OperandText.{OperandText}
+use Rattle.gim_text.specs.declared.tree.OperandText.TheVariants.{Name, Default, Literal}
+use Rattle.gim_text.specs.Texts.{text_of, name_parts}
+use Rattle.gim_making.specs.Declarations.{declarations_of, declared_type, type_by_base, type_by_parts, type_of_name, version_by_parts, version_of_name}
+use Rattle.gim_making.specs.Trees.{no_word, operand_of}
+use Rattle.gim_making.proofs.Membership.{Has, has_left, has_right, has_map, any_has, none_has, none_from_has}
+use Rattle.gim_making.proofs.PartLemmas.{text_itself, same_text_is}
+use Rattle.gim_round_trip.specs.ReadBack.{IsWithinLimits}
+use Rattle.gim_round_trip.proofs.tree.Rows.{name_facts, number_of_decimal, each_operand_holds, operand_row}
+use Rattle.gim_round_trip.proofs.tree.Writes.{Writes, WritesDecl, WritesOperand}
+
+-- a tree, and the well-formed function within the limits that it writes
+pub record WritesWell (source : List ℕ) (tree : FunctionText) (f : Function) : Type 0 where
+  pub writes : Writes source tree f
+  pub well : IsWellFormed f
+  pub within : IsWithinLimits f
+
+pub all_write_well : (source : List ℕ) (trees : List FunctionText) (fs : List Function) → AllZip (Writes source) trees fs → AllByRecursion IsWellFormed fs → AllByRecursion IsWithinLimits fs → AllZip (WritesWell source) trees fs
+all_write_well source [] [] written well limits = tt
+all_write_well source [] (f ∷ fs) written well limits = absurd written
+all_write_well source (tree ∷ trees) [] written well limits = absurd written
+all_write_well source (tree ∷ trees) (f ∷ fs) written well limits = (record { writes = written.0; well = well.0; within = limits.0 }, all_write_well source trees fs written.1 well.1 limits.1)
+
+-- ---- distinct identifiers
+
+front_distinct : (xs ys : List (List ℕ)) → all_distinct same_text (xs ++ ys) ≡ true → all_distinct same_text xs ≡ true
+front_distinct [] ys h = refl
+front_distinct (x ∷ xs) ys h =
+    let p = and_parts (not (list_any (same_text x) (xs ++ ys))) (all_distinct same_text (xs ++ ys)) h in
+    let other : list_any (same_text x) xs ≡ false = none_from_has (same_text x) xs (λ y there same. none_has (same_text x) (xs ++ ys) (not-true (list_any (same_text x) (xs ++ ys)) p.0) y (has_left xs ys y there) same) in
+    and_from (not (list_any (same_text x) xs)) (all_distinct same_text xs) (ap not other) (front_distinct xs ys p.1)
+
+rest_distinct : (xs ys : List (List ℕ)) → all_distinct same_text (xs ++ ys) ≡ true → all_distinct same_text ys ≡ true
+rest_distinct [] ys h = h
+rest_distinct (x ∷ xs) ys h = rest_distinct xs ys (and_parts (not (list_any (same_text x) (xs ++ ys))) (all_distinct same_text (xs ++ ys)) h).1
+
+-- the first of distinct identifiers isn't one of the others
+not_again : (x : List ℕ) (xs : List (List ℕ)) → all_distinct same_text (x ∷ xs) ≡ true → Has xs x → ⊥
+not_again x xs h there =
+    let p = and_parts (not (list_any (same_text x) xs)) (all_distinct same_text xs) h in
+    none_has (same_text x) xs (not-true (list_any (same_text x) xs) p.0) x there (text_itself x)
+
+apart : (xs ys : List (List ℕ)) → all_distinct same_text (xs ++ ys) ≡ true → (x : List ℕ) → Has xs x → Has ys x → ⊥
+apart [] ys h x there here = absurd there
+apart (z ∷ xs) ys h x (inl e) here = not_again z (xs ++ ys) h (has_right xs ys z (subst (Has ys) (sym e) here))
+apart (z ∷ xs) ys h x (inr there) here = apart xs ys (and_parts (not (list_any (same_text z) (xs ++ ys))) (all_distinct same_text (xs ++ ys)) h).1 x there here
+
+idents_distinct : (f : Function) → IsWellFormed f → all_distinct same_text (map ident_of f.params ++ map ident_of f.decls) ≡ true
+idents_distinct f well = subst (λ l. all_distinct same_text l ≡ true) (map-append ident_of f.params f.decls) (and_parts _ _ (and_parts _ _ well.declarations).0).1
+
+-- ---- types of identifiers
+
+-- what is declared is the identifier and the type of a declaration
+pub declared_as : (ident : List ℕ) (t : Ty) (decls : List Decl) → declares_as ident t decls ≡ true → (decl : Decl) × Has decls decl × (decl.ident ≡ ident) × (decl.ty ≡ t)
+declared_as ident t decls h =
+    let r = any_has (λ (decl : Decl). same_text decl.ident ident && same_type decl.ty t) decls h in
+    let p = and_parts (same_text r.0.ident ident) (same_type r.0.ty t) r.2 in
+    (r.0, r.1, same_text_is r.0.ident ident p.0, same_type_is r.0.ty t p.1)
+
+-- distinct identifiers have the types of their declarations
+type_declared : (source : List ℕ) (trees : List DeclText) (decls : List Decl) → AllZip (WritesDecl source) trees decls → all_distinct same_text (map ident_of decls) ≡ true → (decl : Decl) → Has decls decl
+    → declared_type source decl.ident trees ≡ Some decl.ty
+type_declared source trees [] written distinct decl h = absurd h
+type_declared source [] (d ∷ decls) written distinct decl h = absurd written
+type_declared source (tree ∷ trees) (d ∷ decls) written distinct decl (inl e) =
+    let here : decl.ident ≡ text_of source tree.ident = sym (ap ident_of e) ∙ sym written.0.0 in
+    let same : same_text decl.ident (text_of source tree.ident) ≡ true = ap (same_text decl.ident) (sym here) ∙ text_itself decl.ident in
+    ap (λ b. cond b (Some tree.ty) (declared_type source decl.ident trees)) same ∙ ap Some (written.0.1 ∙ ap (λ (x : Decl). x.ty) e)
+type_declared source (tree ∷ trees) (d ∷ decls) written distinct decl (inr there) =
+    let other : same_text decl.ident (text_of source tree.ident) ≡ false =
+    false_from_ne_true (same_text decl.ident (text_of source tree.ident)) (λ same.
+    let here : decl.ident ≡ d.ident = same_text_is decl.ident (text_of source tree.ident) same ∙ written.0.0 in
+    not_again d.ident (map ident_of decls) distinct (subst (Has (map ident_of decls)) here (has_map ident_of decls decl there))) in
+    let later = (and_parts (not (list_any (same_text d.ident) (map ident_of decls))) (all_distinct same_text (map ident_of decls)) distinct).1 in
+    ap (λ b. cond b (Some tree.ty) (declared_type source decl.ident trees)) other ∙ type_declared source trees decls written.1 later decl there
+
+-- another identifier has none
+none_declared : (source ident : List ℕ) (trees : List DeclText) (decls : List Decl) → AllZip (WritesDecl source) trees decls → (Has (map ident_of decls) ident → ⊥) → declared_type source ident trees ≡ None
+none_declared source ident [] decls written other = refl
+none_declared source ident (tree ∷ trees) [] written other = absurd written
+none_declared source ident (tree ∷ trees) (d ∷ decls) written other =
+    let first : same_text ident (text_of source tree.ident) ≡ false =
+    false_from_ne_true (same_text ident (text_of source tree.ident)) (λ same. other (inl (sym (same_text_is ident (text_of source tree.ident) same ∙ written.0.0)))) in
+    ap (λ b. cond b (Some tree.ty) (declared_type source ident trees)) first ∙ none_declared source ident trees decls written.1 (λ there. other (inr there))
+
+param_type : (source : List ℕ) (tree : FunctionText) (f : Function) → WritesWell source tree f → (ident : List ℕ) (t : Ty) → declares_as ident t f.params ≡ true → declared_type source ident tree.params ≡ Some t
+param_type source tree f w ident t h =
+    let d = declared_as ident t f.params h in
+    let distinct = front_distinct (map ident_of f.params) (map ident_of f.decls) (idents_distinct f w.well) in
+    ap (λ i. declared_type source i tree.params) (sym d.2) ∙ type_declared source tree.params f.params w.writes.params distinct d.0 d.1 ∙ ap Some d.3
+
+local_type : (source : List ℕ) (tree : FunctionText) (f : Function) → WritesWell source tree f → (ident : List ℕ) (t : Ty) → declares_as ident t f.decls ≡ true → declared_type source ident tree.decls ≡ Some t
+local_type source tree f w ident t h =
+    let d = declared_as ident t f.decls h in
+    let distinct = rest_distinct (map ident_of f.params) (map ident_of f.decls) (idents_distinct f w.well) in
+    ap (λ i. declared_type source i tree.decls) (sym d.2) ∙ type_declared source tree.decls f.decls w.writes.decls distinct d.0 d.1 ∙ ap Some d.3
+
+-- a local is no parameter
+no_param_type : (source : List ℕ) (tree : FunctionText) (f : Function) → WritesWell source tree f → (ident : List ℕ) (t : Ty) → declares_as ident t f.decls ≡ true → declared_type source ident tree.params ≡ None
+no_param_type source tree f w ident t h =
+    let d = declared_as ident t f.decls h in
+    let local : Has (map ident_of f.decls) ident = subst (Has (map ident_of f.decls)) d.2 (has_map ident_of f.decls d.0 d.1) in
+    none_declared source ident tree.params f.params w.writes.params (λ there. apart (map ident_of f.params) (map ident_of f.decls) (idents_distinct f w.well) ident there local)
+
+-- the declaration of a row's base, or of the whole name, gives its type
+base_type : (source : List ℕ) (tree : FunctionText) (f : Function) → WritesWell source tree f → (row : NameRow) → base_holds f row ≡ true
+    → type_by_base (declarations_of source tree) (row.base ++ 95 ∷ decimal row.version) row.base ≡ Some row.ty
+base_type source tree f w row holds = by row.base holds where
+  by : (base : List ℕ) → cond (same_text base []) (not row.initial && declares_as (anonymous row.version) row.ty f.decls) (declares_as base row.ty f.params || (not row.initial && declares_as base row.ty f.decls)) ≡ true
+      → type_by_base (declarations_of source tree) (base ++ 95 ∷ decimal row.version) base ≡ Some row.ty
+  by [] h = local_type source tree f w (anonymous row.version) row.ty (and_parts (not row.initial) (declares_as (anonymous row.version) row.ty f.decls) h).1
+  by (b ∷ base) h =
+      let ident = b ∷ base in
+      elim (or_cases (declares_as ident row.ty f.params) (not row.initial && declares_as ident row.ty f.decls) h) [
+        | inl param ↦ ap (λ o. option_or o (declared_type source ident tree.decls)) (param_type source tree f w ident row.ty param)
+        | inr other ↦
+            let local = (and_parts (not row.initial) (declares_as ident row.ty f.decls) other).1 in
+            ap (λ o. option_or o (declared_type source ident tree.decls)) (no_param_type source tree f w ident row.ty local) ∙ local_type source tree f w ident row.ty local
+      ]
+
+-- ---- names
+
+-- the parts, the version and the type of a name that stands at a place
+pub record KnownName (source : List ℕ) (tree : FunctionText) (at : Span) (x : ℕ) (row : NameRow) : Type 0 where
+  pub parts : name_parts (text_of source at) ≡ Some (row.base, decimal x)
+  pub version : version_of_name source at ≡ x
+  pub type : type_of_name (declarations_of source tree) at ≡ row.ty
+
+pub known_name : (source : List ℕ) (tree : FunctionText) (f : Function) → WritesWell source tree f → (at : Span) (x : ℕ) (row : NameRow) → text_of source at ≡ assigned_text f x → row_of f x ≡ Some row → KnownName source tree at x row
+known_name source tree f w at x row text found =
+    let known = declarations_of source tree in
+    let facts = name_facts f x row w.well w.within found in
+    let parts : name_parts (text_of source at) ≡ Some (row.base, decimal x) = ap name_parts text ∙ facts.parts in
+    let whole : text_of source at ≡ row.base ++ 95 ∷ decimal row.version = text ∙ facts.text ∙ ap (λ v. row.base ++ 95 ∷ decimal v) (sym facts.is_version) in
+    let typed : type_by_base known (text_of source at) row.base ≡ Some row.ty = ap (λ t. type_by_base known t row.base) whole ∙ base_type source tree f w row facts.base in
+    record {
+      parts = parts;
+      version = ap version_by_parts parts ∙ number_of_decimal x facts.small;
+      type = ap (type_by_parts known (text_of source at)) parts ∙ ap (λ o. unwrap_or o bool_type) typed;
+    }
+
+-- ---- operands
+
+named_operand : (source : List ℕ) (tree : FunctionText) (f : Function) → WritesWell source tree f → (at : Span) (x : ℕ) (t : Ty) → text_of source at ≡ assigned_text f x → Has (operands_of f) (operands.Name x t)
+    → operands.Name (version_of_name source at) (type_of_name (declarations_of source tree) at) ≡ operands.Name x t
+named_operand source tree f w at x t text there =
+    let r = operand_row f x t (each_operand_holds f w.well (operands.Name x t) there) in
+    let k = known_name source tree f w at x r.0 text r.1 in
+    ap (λ v. operands.Name v (type_of_name (declarations_of source tree) at)) k.version ∙ ap (operands.Name x) (k.type ∙ r.2)
+
+-- an operand of the function is what the text that writes it stands for
+pub operand_is : (source : List ℕ) (tree : FunctionText) (f : Function) → WritesWell source tree f → (a : OperandText) (x : Operand) → WritesOperand source f a x → Has (operands_of f) x → operand_of (declarations_of source tree) a ≡ x
+operand_is source tree f w (Name at) (operands.Name x t) written there = named_operand source tree f w at x t written.0 there
+operand_is source tree f w (Default at) (operands.Name x t) written there = named_operand source tree f w at x t written.0 there
+operand_is source tree f w (Literal literal) (operands.Const word) written there = ap (λ o. operands.Const (unwrap_or o no_word)) written
+operand_is source tree f w (Name at) (operands.Const word) written there = absurd written
+operand_is source tree f w (Default at) (operands.Const word) written there = absurd written
+operand_is source tree f w (Literal literal) (operands.Name x t) written there = absurd written
