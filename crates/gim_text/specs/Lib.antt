@@ -1,4 +1,5 @@
 pub mod Faults
 pub mod Literals
 pub mod Meanings
+pub mod Occurrences
 pub mod Texts
