@@ -1,9 +1,9 @@
--- Judging mentions and functions one after another.
+-- Judging occurrences and functions one after another.
 use Rattle.std.proofs.Common.{◌≡◌, ℕ, Bool, true, false, List, [], ◌∷◌, Option, Some, None, Result, Ok, Err, option_map, refl, sym, ap, subst, ◌∙◌}
 use Rattle.std.specs.Prelude.{IsErrAnd, if◌then◌else◌, map}
 use Rattle.std.specs.Borrow.{Bor}
 use Rattle.std.specs.HashSet.{HashSet}
-use Rattle.std.specs.List.{list_any}
+use Rattle.std.specs.List.{list_any, filter_map}
 use Rattle.gim_ast.specs.WellFormed.{same_text}
 use Rattle.std.proofs.lemmas.Bool.{or_parts}
 use Rattle.gim_text.specs.declared.fault.GimpleFault.{GimpleFault}
@@ -11,13 +11,12 @@ use Rattle.gim_text.specs.declared.fault.GimpleKind.{GimpleKind}
 use Rattle.gim_text.specs.declared.fault.GimpleKind.TheVariants.{Memory, Lex, Syntax, Unsupported, Redefined, Undeclared, WideLiteral, MissingBlock, BadPhi, NoReturn, TypeMismatch, TooLarge}
 use Rattle.gim_text.specs.declared.tree.FunctionText.{FunctionText}
 use Rattle.gim_text.specs.Faults.{fault_at, or_fault, IsFault, Judges}
-use Rattle.gim_names.specs.declared.mention.Mention.{Mention}
-use Rattle.gim_names.specs.declared.mention.Mention.TheVariants.{Param}
+use Rattle.gim_text.specs.declared.occurrence.Occurrence.{Occurrence}
 use Rattle.gim_names.specs.declared.past.Past.{Past}
-use Rattle.gim_names.specs.Mentions.{place_of, mentions_of}
-use Rattle.gim_names.specs.Parts.{all_said, version_base, base_default}
+use Rattle.gim_text.specs.Occurrences.{place_of, occurrences_of}
+use Rattle.gim_names.specs.Parts.{version_base, base_default}
 use Rattle.gim_names.specs.Rules.{is_repeated, is_contradicted, is_marked_otherwise, has_other_base, has_other_mark, has_other_default, is_redefined, is_undeclared, is_wide}
-use Rattle.gim_names.specs.NamesFault.{first_by, first_kind, kind_of_mention, mention_fault, mentions_fault, function_text, second_function, function_fault, names_fault}
+use Rattle.gim_names.specs.NamesFault.{first_by, first_kind, kind_of_occurrence, occurrence_fault, occurrences_fault, function_text, second_function, function_fault, names_fault}
 use Rattle.gim_names.specs.Tables.{HasTexts, Remembers, IsSound}
 use Rattle.gim_names.proofs.TableLemmas.{one_more}
 
@@ -55,48 +54,44 @@ pub judges_err : {X : Type 0} (r : Result X GimpleFault) (fault : GimpleFault) (
 judges_err (Ok x) fault expected h is = absurd h
 judges_err (Err e) fault expected h is = subst (λ (f : GimpleFault). IsFault f.kind f expected) (sym h) is
 
--- ---- mentions
-
--- what stands outside a list of mentions
-abbrev pub outside : Mention
-outside = Param (record { from = 0; to = 0 })
+-- ---- occurrences
 
 not_redefined : (r u w : Bool) → first_kind r u w ≡ None → r ≡ false
 not_redefined true u w e = absurd cc
 not_redefined false u w e = refl
 
--- a mention without a fault keeps what is before it sound
-pub stays_sound : (source : List ℕ) (all before : List Mention) (m : Mention) → kind_of_mention source all before m ≡ None → IsSound source before → IsSound source (m ∷ before)
+-- a occurrence without a fault keeps what is before it sound
+pub stays_sound : (source : List ℕ) (all before : List Occurrence) (m : Occurrence) → kind_of_occurrence source all before m ≡ None → IsSound source before → IsSound source (m ∷ before)
 stays_sound source all before m none sound =
-    let r = or_parts (is_repeated source before m) (is_contradicted source before m) (not_redefined (is_redefined source before m) (is_undeclared source all m) (is_wide m) none) in
+    let r = or_parts (is_repeated source before m) (is_contradicted source before m) (not_redefined (is_redefined source before m) (is_undeclared source all m) (is_wide source m) none) in
     let b = or_parts (has_other_base source before m) (is_marked_otherwise source before m) r.1 in
     let d = or_parts (has_other_mark source before m) (has_other_default source before m) b.1 in
     record {
-      bases = one_more (version_base source m) (all_said (version_base source) before) b.0 sound.bases;
-      defaults = one_more (base_default source m) (all_said (base_default source) before) d.1 sound.defaults;
+      bases = one_more (version_base source m) (filter_map (version_base source) before) b.0 sound.bases;
+      defaults = one_more (base_default source m) (filter_map (base_default source) before) d.1 sound.defaults;
     }
 
 -- what is judged so far, by a past that remembers it, and what the rest will be found to be
-pub record IsJudged (source : List ℕ) (all rest : List Mention) (past : Past) : Type 0 where
-  pub before : List Mention
+pub record IsJudged (source : List ℕ) (all rest : List Occurrence) (past : Past) : Type 0 where
+  pub before : List Occurrence
   pub remembers : Remembers source before past
   pub sound : IsSound source before
-  pub same : first_by (mention_fault source all) before rest ≡ mentions_fault source all
+  pub same : first_by (occurrence_fault source all) before rest ≡ occurrences_fault source all
 
-pub judged_none : (source : List ℕ) (all rest : List Mention) (past : Past) → rest ≡ [] → IsJudged source all rest past → None ≡ mentions_fault source all
-judged_none source all rest past none judged = subst (λ (r : List Mention). first_by (mention_fault source all) judged.before r ≡ mentions_fault source all) none judged.same
+pub judged_none : (source : List ℕ) (all rest : List Occurrence) (past : Past) → rest ≡ [] → IsJudged source all rest past → None ≡ occurrences_fault source all
+judged_none source all rest past none judged = subst (λ (r : List Occurrence). first_by (occurrence_fault source all) judged.before r ≡ occurrences_fault source all) none judged.same
 
-pub judged_fault : (source : List ℕ) (all rest more : List Mention) (past : Past) (m : Mention) (kind : GimpleKind) (judged : IsJudged source all rest past) → rest ≡ m ∷ more → kind_of_mention source all judged.before m ≡ Some kind
-    → mentions_fault source all ≡ Some (fault_at kind (place_of m))
+pub judged_fault : (source : List ℕ) (all rest more : List Occurrence) (past : Past) (m : Occurrence) (kind : GimpleKind) (judged : IsJudged source all rest past) → rest ≡ m ∷ more → kind_of_occurrence source all judged.before m ≡ Some kind
+    → occurrences_fault source all ≡ Some (fault_at kind (place_of m))
 judged_fault source all rest more past m kind judged is broken =
-    let same = subst (λ (r : List Mention). first_by (mention_fault source all) judged.before r ≡ mentions_fault source all) is judged.same in
-    sym same ∙ ap (λ k. or_fault (option_map (λ (kind : GimpleKind). fault_at kind (place_of m)) k) (first_by (mention_fault source all) (m ∷ judged.before) more)) broken
+    let same = subst (λ (r : List Occurrence). first_by (occurrence_fault source all) judged.before r ≡ occurrences_fault source all) is judged.same in
+    sym same ∙ ap (λ k. or_fault (option_map (λ (kind : GimpleKind). fault_at kind (place_of m)) k) (first_by (occurrence_fault source all) (m ∷ judged.before) more)) broken
 
-pub judged_more : (source : List ℕ) (all rest more : List Mention) (past next : Past) (m : Mention) (judged : IsJudged source all rest past) → rest ≡ m ∷ more → kind_of_mention source all judged.before m ≡ None
+pub judged_more : (source : List ℕ) (all rest more : List Occurrence) (past next : Past) (m : Occurrence) (judged : IsJudged source all rest past) → rest ≡ m ∷ more → kind_of_occurrence source all judged.before m ≡ None
     → Remembers source (m ∷ judged.before) next → IsJudged source all more next
 judged_more source all rest more past next m judged is holds remembers =
-    let same = subst (λ (r : List Mention). first_by (mention_fault source all) judged.before r ≡ mentions_fault source all) is judged.same in
-    let goes = ap (λ k. or_fault (option_map (λ (kind : GimpleKind). fault_at kind (place_of m)) k) (first_by (mention_fault source all) (m ∷ judged.before) more)) holds in
+    let same = subst (λ (r : List Occurrence). first_by (occurrence_fault source all) judged.before r ≡ occurrences_fault source all) is judged.same in
+    let goes = ap (λ k. or_fault (option_map (λ (kind : GimpleKind). fault_at kind (place_of m)) k) (first_by (occurrence_fault source all) (m ∷ judged.before) more)) holds in
     record {
       before = m ∷ judged.before;
       remembers = remembers;
@@ -123,19 +118,19 @@ module _ {S : Type 0} (source : List ℕ) (all rest : List FunctionText) (known 
     opened : first_by (function_fault source) judged.before (f ∷ more) ≡ names_fault source all
     opened = subst (λ (r : List FunctionText). first_by (function_fault source) judged.before r ≡ names_fault source all) is judged.same
 
-    -- what the function's fault is, by whether its name stood before and what its mentions are found to be
-    by_parts : (again : Bool) (fault : Option GimpleFault) → list_any (same_text (function_text source f)) (map (function_text source) judged.before) ≡ again → mentions_fault source (mentions_of source f) ≡ fault
+    -- what the function's fault is, by whether its name stood before and what its occurrences are found to be
+    by_parts : (again : Bool) (fault : Option GimpleFault) → list_any (same_text (function_text source f)) (map (function_text source) judged.before) ≡ again → occurrences_fault source (occurrences_of f) ≡ fault
         → or_fault (or_fault (if again then Some (fault_at Redefined f.name) else None) fault) (first_by (function_fault source) (f ∷ judged.before) more) ≡ names_fault source all
     by_parts again fault e g =
         subst (λ (b : Bool). or_fault (or_fault (if b then Some (fault_at Redefined f.name) else None) fault) (first_by (function_fault source) (f ∷ judged.before) more) ≡ names_fault source all) e
         (subst (λ (x : Option GimpleFault). or_fault (or_fault (second_function source judged.before f) x) (first_by (function_fault source) (f ∷ judged.before) more) ≡ names_fault source all) g opened)
 
     pub functions_second : list_any (same_text (function_text source f)) (map (function_text source) judged.before) ≡ true → names_fault source all ≡ Some (fault_at Redefined f.name)
-    functions_second e = sym (by_parts true (mentions_fault source (mentions_of source f)) e refl)
+    functions_second e = sym (by_parts true (occurrences_fault source (occurrences_of f)) e refl)
 
-    pub functions_fault : (fault : GimpleFault) → list_any (same_text (function_text source f)) (map (function_text source) judged.before) ≡ false → mentions_fault source (mentions_of source f) ≡ Some fault → names_fault source all ≡ Some fault
+    pub functions_fault : (fault : GimpleFault) → list_any (same_text (function_text source f)) (map (function_text source) judged.before) ≡ false → occurrences_fault source (occurrences_of f) ≡ Some fault → names_fault source all ≡ Some fault
     functions_fault fault e g = sym (by_parts false (Some fault) e g)
 
-    pub functions_more : (next : HashSet (Bor (List ℕ)) S) → list_any (same_text (function_text source f)) (map (function_text source) judged.before) ≡ false → mentions_fault source (mentions_of source f) ≡ None
+    pub functions_more : (next : HashSet (Bor (List ℕ)) S) → list_any (same_text (function_text source f)) (map (function_text source) judged.before) ≡ false → occurrences_fault source (occurrences_of f) ≡ None
         → HasTexts next (function_text source f ∷ map (function_text source) judged.before) → AreJudged source all more next
     functions_more next e g knows = record { before = f ∷ judged.before; knows = knows; same = by_parts false None e g }

@@ -1,7 +1,7 @@
 -- What a function without a fault of names says of its parts.
 use Rattle.std.proofs.Common.{◌≡◌, ℕ, zero, suc, Bool, true, false, List, [], ◌∷◌, ◌++◌, map, Option, Some, None, refl, sym, ap, subst, ◌∙◌, arith}
 use Rattle.std.specs.Prelude.{not, ◌&&◌, Contains}
-use Rattle.std.specs.List.{list_any, list_all, flat_map}
+use Rattle.std.specs.List.{list_any, list_all, flat_map, cons_option, filter_map}
 use Rattle.std.specs.Cmp.Lexicographic.{bytes_decides}
 use Rattle.std.proofs.lemmas.Bool.{and_parts, or_parts, not-true, not-false}
 use Rattle.std.proofs.lemmas.List.Folds.{list_all-append}
@@ -9,10 +9,10 @@ use Rattle.gim_ast.specs.WellFormed.{same_text}
 use Rattle.gim_text.specs.declared.tree.FunctionText.{FunctionText}
 use Rattle.gim_text.specs.declared.tree.BlockText.{BlockText}
 use Rattle.gim_text.specs.declared.tree.ItemText.{ItemText}
-use Rattle.gim_names.specs.declared.mention.Mention.{Mention}
-use Rattle.gim_names.specs.declared.mention.Mention.TheVariants.{Block}
-use Rattle.gim_names.specs.Mentions.{mention_of_param, mention_of_local, mentions_of_item, mentions_of_end, mentions_of_block, mentions_of}
-use Rattle.gim_names.specs.Parts.{with_some, all_said, version_base, base_default}
+use Rattle.gim_text.specs.declared.occurrence.Occurrence.{Occurrence}
+use Rattle.gim_text.specs.declared.occurrence.Occurrence.TheVariants.{Block}
+use Rattle.gim_text.specs.Occurrences.{occurrence_of_parameter, occurrence_of_local, occurrences_of_item, occurrences_of_end, occurrences_of_block, occurrences_of}
+use Rattle.gim_names.specs.Parts.{version_base, base_default}
 use Rattle.gim_names.specs.Rules.{has_other_second}
 use Rattle.gim_names.specs.Tables.{have_one_each}
 use Rattle.gim_names.specs.Kept.{locals_of, params_of, assigned_of, is_declared, has_word, KeepsNames, BlockKeepsNames, AreOne}
@@ -27,34 +27,34 @@ of_each test part [] h x c = absurd (omega (arith, c.1))
 of_each test part (y ∷ ys) h x (zero, lt, is) = subst (λ z. list_all test (part z) ≡ true) is (both test (part y) (flat_map part ys) h).0
 of_each test part (y ∷ ys) h x (suc k, lt, is) = of_each test part ys (both test (part y) (flat_map part ys) h).1 x (k, omega (arith, lt), is)
 
-module _ (source : List ℕ) (f : FunctionText) (test : Mention → Bool) (h : list_all test (mentions_of source f) ≡ true) (block : BlockText) (has : Contains f.blocks block) where
-  in_block : list_all test (mentions_of_block source block) ≡ true
-  in_block = of_each test (mentions_of_block source) f.blocks (both test (map mention_of_param f.params ++ map mention_of_local f.decls) (flat_map (mentions_of_block source) f.blocks) h).1 block has
+module _ (source : List ℕ) (f : FunctionText) (test : Occurrence → Bool) (h : list_all test (occurrences_of f) ≡ true) (block : BlockText) (has : Contains f.blocks block) where
+  in_block : list_all test (occurrences_of_block block) ≡ true
+  in_block = of_each test occurrences_of_block f.blocks (both test (map occurrence_of_parameter f.params ++ map occurrence_of_local f.decls) (flat_map occurrences_of_block f.blocks) h).1 block has
 
-  in_parts : (list_all test (Block block.number ∷ flat_map (mentions_of_item source) block.items) ≡ true) × (list_all test (mentions_of_end source block.end) ≡ true)
-  in_parts = both test (Block block.number ∷ flat_map (mentions_of_item source) block.items) (mentions_of_end source block.end) in_block
+  in_parts : (list_all test (Block block.number ∷ flat_map occurrences_of_item block.items) ≡ true) × (list_all test (occurrences_of_end block.end) ≡ true)
+  in_parts = both test (Block block.number ∷ flat_map occurrences_of_item block.items) (occurrences_of_end block.end) in_block
 
-  in_item : (item : ItemText) → Contains block.items item → list_all test (mentions_of_item source item) ≡ true
-  in_item item c = of_each test (mentions_of_item source) block.items (and_parts (test (Block block.number)) (list_all test (flat_map (mentions_of_item source) block.items)) in_parts.0).1 item c
+  in_item : (item : ItemText) → Contains block.items item → list_all test (occurrences_of_item item) ≡ true
+  in_item item c = of_each test occurrences_of_item block.items (and_parts (test (Block block.number)) (list_all test (flat_map occurrences_of_item block.items)) in_parts.0).1 item c
 
 pub blocks_keep : (source : List ℕ) (f : FunctionText) → KeepsNames source f → (block : BlockText) → Contains f.blocks block → BlockKeepsNames source f block
 blocks_keep source f keeps block has =
     let declared = is_declared source (locals_of source f) (params_of source f) (assigned_of source f) in
     record {
-      items = λ item c. record { names = in_item source f declared keeps.names block has item c; constants = in_item source f has_word keeps.constants block has item c };
-      end = record { names = (in_parts source f declared keeps.names block has).1; constants = (in_parts source f has_word keeps.constants block has).1 };
+      items = λ item c. record { names = in_item source f declared keeps.names block has item c; constants = in_item source f (has_word source) keeps.constants block has item c };
+      end = record { names = (in_parts source f declared keeps.names block has).1; constants = (in_parts source f (has_word source) keeps.constants block has).1 };
     }
 
 -- ---- pairs
 
-contains_later : {X : Type 0} (o : Option X) (xs : List X) (x : X) → Contains xs x → Contains (with_some o xs) x
+contains_later : {X : Type 0} (o : Option X) (xs : List X) (x : X) → Contains xs x → Contains (cons_option o xs) x
 contains_later None xs x c = c
 contains_later (Some y) xs x c = (suc c.0, omega (arith, c.1), c.2)
 
-said_has : {M X : Type 0} (says : M → Option X) (ms : List M) (m : M) (x : X) → Contains ms m → says m ≡ Some x → Contains (all_said says ms) x
+said_has : {M X : Type 0} (says : M → Option X) (ms : List M) (m : M) (x : X) → Contains ms m → says m ≡ Some x → Contains (filter_map says ms) x
 said_has says [] m x c e = absurd (omega (arith, c.1))
-said_has says (n ∷ ms) m x (zero, lt, is) e = subst (λ o. Contains (with_some o (all_said says ms)) x) (sym (ap says is ∙ e)) (0, omega arith, refl)
-said_has says (n ∷ ms) m x (suc k, lt, is) e = contains_later (says n) (all_said says ms) x (said_has says ms m x (k, omega (arith, lt), is) e)
+said_has says (n ∷ ms) m x (zero, lt, is) e = subst (λ o. Contains (cons_option o (filter_map says ms)) x) (sym (ap says is ∙ e)) (0, omega arith, refl)
+said_has says (n ∷ ms) m x (suc k, lt, is) e = contains_later (says n) (filter_map says ms) x (said_has says ms m x (k, omega (arith, lt), is) e)
 
 -- no pair of the list has this first part and another second part
 same_second : (p q : List ℕ × List ℕ) (pairs : List (List ℕ × List ℕ)) → list_any (has_other_second p.0 p.1) pairs ≡ false → Contains pairs q → p.0 ≡ q.0 → p.1 ≡ q.1
@@ -80,10 +80,10 @@ one_second (r ∷ pairs) one p q (suc k, lt, is) (zero, lt', is') e =
 one_second (r ∷ pairs) one p q (suc k, lt, is) (suc k', lt', is') e =
     one_second pairs (and_parts (not (list_any (has_other_second r.0 r.1) pairs)) (have_one_each pairs) one).1 p q (k, omega (arith, lt), is) (k', omega (arith, lt'), is') e
 
-pub are_one : (source : List ℕ) (f : FunctionText) → KeepsNames source f → (m n : Mention) → Contains (mentions_of source f) m → Contains (mentions_of source f) n → AreOne source m n
+pub are_one : (source : List ℕ) (f : FunctionText) → KeepsNames source f → (m n : Occurrence) → Contains (occurrences_of f) m → Contains (occurrences_of f) n → AreOne source m n
 are_one source f keeps m n a b =
-    let all = mentions_of source f in
+    let all = occurrences_of f in
     record {
-      bases = λ p q d e same. one_second (all_said (version_base source) all) keeps.bases p q (said_has (version_base source) all m p a d) (said_has (version_base source) all n q b e) same;
-      defaults = λ p q d e same. one_second (all_said (base_default source) all) keeps.defaults p q (said_has (base_default source) all m p a d) (said_has (base_default source) all n q b e) same;
+      bases = λ p q d e same. one_second (filter_map (version_base source) all) keeps.bases p q (said_has (version_base source) all m p a d) (said_has (version_base source) all n q b e) same;
+      defaults = λ p q d e same. one_second (filter_map (base_default source) all) keeps.defaults p q (said_has (base_default source) all m p a d) (said_has (base_default source) all n q b e) same;
     }

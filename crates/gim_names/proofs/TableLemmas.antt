@@ -3,12 +3,11 @@ use Rattle.std.proofs.Common.{◌≡◌, ℕ, zero, suc, ◌+◌, ◌-◌, ◌<�
 use Rattle.std.specs.Prelude.{not, ◌||◌, ◌&&◌}
 use Rattle.std.specs.Borrow.{Bor}
 use Rattle.std.specs.HashSet.{HashSet}
-use Rattle.std.specs.List.{list_any}
+use Rattle.std.specs.List.{list_any, cons_option}
 use Rattle.std.specs.Map.{lookup}
 use Rattle.std.specs.Cmp.Lexicographic.{nat_list_eq_equiv, bytes_decides}
 use Rattle.std.proofs.lemmas.Bool.{and_parts, and_from, not-true, not_from_false}
 use Rattle.gim_ast.specs.WellFormed.{same_text}
-use Rattle.gim_names.specs.Parts.{with_some}
 use Rattle.gim_names.specs.Rules.{has_other_second, differs}
 use Rattle.gim_names.specs.Tables.{HasTexts, have_one_each}
 
@@ -66,18 +65,19 @@ other_some key value found (p ∷ pairs) one e =
     (λ h. other_some key value found pairs t.1 h) e
 
 -- one more pair that differs from none
-pub one_more : (o : Option (List ℕ × List ℕ)) (pairs : List (List ℕ × List ℕ)) → differs o pairs ≡ false → have_one_each pairs ≡ true → have_one_each (with_some o pairs) ≡ true
+pub one_more : (o : Option (List ℕ × List ℕ)) (pairs : List (List ℕ × List ℕ)) → differs o pairs ≡ false → have_one_each pairs ≡ true → have_one_each (cons_option o pairs) ≡ true
 one_more None pairs d one = one
 one_more (Some p) pairs d one = and_from (not (list_any (has_other_second p.0 p.1) pairs)) (have_one_each pairs) (not_from_false (list_any (has_other_second p.0 p.1) pairs) d) one
 
 -- ---- places
 
-pub item_at : {X : Type 0} (xs : List X) (i : ℕ) (d : X) → i < length xs → drop i xs ≡ get_or xs i d ∷ drop (i + 1) xs
-item_at xs i d lt = rw add-one (drop-cons xs i d lt)
-
-pub item_before : {X : Type 0} (xs : List X) (at : ℕ) (d : X) → 0 < at → at ≤ length xs → drop (at - 1) xs ≡ get_or xs (at - 1) d ∷ drop at xs
-item_before xs zero d some within = absurd (omega arith)
-item_before xs (suc at) d some within = let e : suc at - 1 ≡ at = omega arith in rw e (drop-cons xs at d (omega arith))
+-- the list from the place before on
+pub item_before : {X : Type 0} (xs : List X) (at : ℕ) (x : X) → 0 < at → at ≤ length xs → x ≡ get_or xs (at - 1) x → drop (at - 1) xs ≡ x ∷ drop at xs
+item_before xs zero x some within is = absurd (omega arith)
+item_before xs (suc at) x some within is =
+    let e : suc at - 1 ≡ at = omega arith in
+    let here : x ≡ get_or xs at x = subst (λ i. x ≡ get_or xs i x) e is in
+    rw e (drop-cons xs at x (omega arith) ∙ ap (λ y. y ∷ drop (suc at) xs) (sym here))
 
 pub drop_all : {X : Type 0} (xs : List X) → drop (length xs) xs ≡ []
 drop_all [] = refl
@@ -93,4 +93,4 @@ pub none_has : {S : Type 0} (set : HashSet (Bor (List ℕ)) S) → set.keys ≡ 
 none_has set e q = rw e refl
 
 pub item_is : {X : Type 0} (xs : List X) (i : ℕ) (x : X) → i < length xs → x ≡ get_or xs i x → drop i xs ≡ x ∷ drop (i + 1) xs
-item_is xs i x lt is = item_at xs i x lt ∙ ap (λ y. y ∷ drop (i + 1) xs) (sym is)
+item_is xs i x lt is = rw add-one (drop-cons xs i x lt) ∙ ap (λ y. y ∷ drop (i + 1) xs) (sym is)

@@ -1,17 +1,18 @@
 -- What holds of a file and of its functions where no name is at fault.
-use Rattle.std.specs.Prelude.{◌≡◌, ℕ, Bool, true, false, ◌&&◌, ◌||◌, Option, Some, None, List, [], ◌∷◌, ◌++◌, map, Contains}
-use Rattle.std.specs.List.{list_any, list_all}
+use Rattle.std.specs.Prelude.{◌≡◌, ℕ, Bool, true, false, ◌&&◌, ◌||◌, is_some, Option, Some, None, List, [], ◌∷◌, ◌++◌, map, Contains}
+use Rattle.std.specs.List.{list_any, list_all, filter_map}
 use Rattle.gim_ast.specs.Identifiers.{is_anonymous}
 use Rattle.gim_ast.specs.WellFormed.{same_text, all_distinct}
 use Rattle.gim_text.specs.declared.tree.FunctionText.{FunctionText}
 use Rattle.gim_text.specs.declared.tree.DeclText.{DeclText}
 use Rattle.gim_text.specs.declared.tree.BlockText.{BlockText}
 use Rattle.gim_text.specs.declared.tree.ItemText.{ItemText}
+use Rattle.gim_text.specs.Literals.{literal_word}
 use Rattle.gim_text.specs.Texts.{text_of, name_parts}
-use Rattle.gim_names.specs.declared.mention.Mention.{Mention}
-use Rattle.gim_names.specs.declared.mention.Mention.TheVariants.{Assigned, Used, UsedDefault, Constant}
-use Rattle.gim_names.specs.Mentions.{mentions_of_item, mentions_of_end, mentions_of}
-use Rattle.gim_names.specs.Parts.{all_said, param_text, local_text, declared_text, block_number, assigned_text, assigned_version, plain_version, default_version, version_base, base_default}
+use Rattle.gim_text.specs.declared.occurrence.Occurrence.{Occurrence}
+use Rattle.gim_text.specs.declared.occurrence.Occurrence.TheVariants.{Assigned, Used, Default, Constant}
+use Rattle.gim_text.specs.Occurrences.{occurrences_of_item, occurrences_of_end, occurrences_of}
+use Rattle.gim_names.specs.Parts.{param_text, local_text, declared_text, block_number, assigned_text, assigned_version, plain_version, default_version, version_base, base_default}
 use Rattle.gim_names.specs.Tables.{have_one_each}
 
 abbrev pub ident_text : List ℕ → DeclText → List ℕ
@@ -28,7 +29,7 @@ number_text source block = text_of source block.number
 
 -- the whole identifiers that phis and statements assign
 abbrev pub assigned_of : List ℕ → FunctionText → List (List ℕ)
-assigned_of source f = all_said (assigned_text source) (mentions_of source f)
+assigned_of source f = filter_map (assigned_text source) (occurrences_of f)
 
 -- a name of a declared base; an anonymous one is a local as a whole
 abbrev pub has_base : List (List ℕ) → List (List ℕ) → List ℕ → Option (List ℕ × List ℕ) → Bool
@@ -43,22 +44,22 @@ has_param params (Some ([], version)) = false
 has_param params (Some (b ∷ base, version)) = list_any (same_text (b ∷ base)) params
 
 -- what is assigned and read is a name of a declared base; what is read without `(D)` is assigned; with `(D)` the base is a parameter
-abbrev pub is_declared : List ℕ → List (List ℕ) → List (List ℕ) → List (List ℕ) → Mention → Bool
+abbrev pub is_declared : List ℕ → List (List ℕ) → List (List ℕ) → List (List ℕ) → Occurrence → Bool
 is_declared source locals params assigned (Assigned at) = has_base locals params (text_of source at) (name_parts (text_of source at))
 is_declared source locals params assigned (Used at) = has_base locals params (text_of source at) (name_parts (text_of source at)) && list_any (same_text (text_of source at)) assigned
-is_declared source locals params assigned (UsedDefault at) = has_param params (name_parts (text_of source at))
+is_declared source locals params assigned (Default at) = has_param params (name_parts (text_of source at))
 is_declared source locals params assigned m = true
 
 -- a constant has its word
-abbrev pub has_word : Mention → Bool
-has_word (Constant at fits) = fits
-has_word m = true
+abbrev pub has_word : List ℕ → Occurrence → Bool
+has_word source (Constant literal) = is_some (literal_word source literal)
+has_word source m = true
 
-abbrev pub are_declared : List ℕ → FunctionText → List Mention → Bool
+abbrev pub are_declared : List ℕ → FunctionText → List Occurrence → Bool
 are_declared source f ms = list_all (is_declared source (locals_of source f) (params_of source f) (assigned_of source f)) ms
 
-abbrev pub have_words : List Mention → Bool
-have_words ms = list_all has_word ms
+abbrev pub have_words : List ℕ → List Occurrence → Bool
+have_words source ms = list_all (has_word source) ms
 
 pub record KeepsNames (source : List ℕ) (f : FunctionText) : Type 0 where
   -- parameters and locals have distinct identifiers, and no parameter is an anonymous name
@@ -67,36 +68,36 @@ pub record KeepsNames (source : List ℕ) (f : FunctionText) : Type 0 where
   -- blocks have distinct numbers
   pub blocks : all_distinct same_text (map (number_text source) f.blocks) ≡ true
   -- no version is assigned twice
-  pub assigned : all_distinct same_text (all_said (assigned_version source) (mentions_of source f)) ≡ true
+  pub assigned : all_distinct same_text (filter_map (assigned_version source) (occurrences_of f)) ≡ true
   -- each version has one base, that of an anonymous local counted, and each parameter one default definition at most
-  pub bases : have_one_each (all_said (version_base source) (mentions_of source f)) ≡ true
-  pub defaults : have_one_each (all_said (base_default source) (mentions_of source f)) ≡ true
+  pub bases : have_one_each (filter_map (version_base source) (occurrences_of f)) ≡ true
+  pub defaults : have_one_each (filter_map (base_default source) (occurrences_of f)) ≡ true
   -- no version stands with `(D)` and without
-  pub marks : (version : List ℕ) → list_any (same_text version) (all_said (plain_version source) (mentions_of source f)) ≡ true
-      → list_any (same_text version) (all_said (default_version source) (mentions_of source f)) ≡ false
+  pub marks : (version : List ℕ) → list_any (same_text version) (filter_map (plain_version source) (occurrences_of f)) ≡ true
+      → list_any (same_text version) (filter_map (default_version source) (occurrences_of f)) ≡ false
   -- each name is declared, and assigned or a default definition of a parameter
-  pub names : are_declared source f (mentions_of source f) ≡ true
+  pub names : are_declared source f (occurrences_of f) ≡ true
   -- each constant has its word
-  pub constants : have_words (mentions_of source f) ≡ true
+  pub constants : have_words source (occurrences_of f) ≡ true
 
 -- what the names and constants of an item or an end keep
-pub record PartKeepsNames (source : List ℕ) (f : FunctionText) (ms : List Mention) : Type 0 where
+pub record PartKeepsNames (source : List ℕ) (f : FunctionText) (ms : List Occurrence) : Type 0 where
   pub names : are_declared source f ms ≡ true
-  pub constants : have_words ms ≡ true
+  pub constants : have_words source ms ≡ true
 
 -- the same of each item of a block and of its end
 pub record BlockKeepsNames (source : List ℕ) (f : FunctionText) (block : BlockText) : Type 0 where
-  pub items : (item : ItemText) → Contains block.items item → PartKeepsNames source f (mentions_of_item source item)
-  pub end : PartKeepsNames source f (mentions_of_end source block.end)
+  pub items : (item : ItemText) → Contains block.items item → PartKeepsNames source f (occurrences_of_item item)
+  pub end : PartKeepsNames source f (occurrences_of_end block.end)
 
--- mentions of one version have one base, and default definitions of one parameter one version
-pub record AreOne (source : List ℕ) (m n : Mention) : Type 0 where
+-- occurrences of one version have one base, and default definitions of one parameter one version
+pub record AreOne (source : List ℕ) (m n : Occurrence) : Type 0 where
   pub bases : (p q : List ℕ × List ℕ) → version_base source m ≡ Some p → version_base source n ≡ Some q → p.0 ≡ q.0 → p.1 ≡ q.1
   pub defaults : (p q : List ℕ × List ℕ) → base_default source m ≡ Some p → base_default source n ≡ Some q → p.0 ≡ q.0 → p.1 ≡ q.1
 
--- what the mentions of a function declare is what it declares
-pub record MentionsDeclare (source : List ℕ) (f : FunctionText) : Type 0 where
-  pub params : all_said (param_text source) (mentions_of source f) ≡ params_of source f
-  pub locals : all_said (local_text source) (mentions_of source f) ≡ locals_of source f
-  pub declared : all_said (declared_text source) (mentions_of source f) ≡ params_of source f ++ locals_of source f
-  pub blocks : all_said (block_number source) (mentions_of source f) ≡ map (number_text source) f.blocks
+-- what the occurrences of a function declare is what it declares
+pub record OccurrencesDeclare (source : List ℕ) (f : FunctionText) : Type 0 where
+  pub params : filter_map (param_text source) (occurrences_of f) ≡ params_of source f
+  pub locals : filter_map (local_text source) (occurrences_of f) ≡ locals_of source f
+  pub declared : filter_map (declared_text source) (occurrences_of f) ≡ params_of source f ++ locals_of source f
+  pub blocks : filter_map (block_number source) (occurrences_of f) ≡ map (number_text source) f.blocks

@@ -1,4 +1,3 @@
-pub mod Mentions
 pub mod Parts
 pub mod Rules
 pub mod NamesFault

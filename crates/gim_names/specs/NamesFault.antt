@@ -8,8 +8,8 @@ use Rattle.gim_text.specs.declared.fault.GimpleKind.TheVariants.{Redefined, Unde
 use Rattle.gim_text.specs.declared.tree.FunctionText.{FunctionText}
 use Rattle.gim_text.specs.Faults.{fault_at, or_fault}
 use Rattle.gim_text.specs.Texts.{text_of}
-use Rattle.gim_names.specs.declared.mention.Mention.{Mention}
-use Rattle.gim_names.specs.Mentions.{place_of, mentions_of}
+use Rattle.gim_text.specs.declared.occurrence.Occurrence.{Occurrence}
+use Rattle.gim_text.specs.Occurrences.{place_of, occurrences_of}
 use Rattle.gim_names.specs.Rules.{is_redefined, is_undeclared, is_wide}
 
 -- the first fault in a list, each judged by those before it, the latest of them first
@@ -24,17 +24,17 @@ first_kind false true wide = Some Undeclared
 first_kind false false true = Some WideLiteral
 first_kind false false false = None
 
--- the first kind whose rules a mention breaks
-abbrev pub kind_of_mention : List ℕ → List Mention → List Mention → Mention → Option GimpleKind
-kind_of_mention source all before m = first_kind (is_redefined source before m) (is_undeclared source all m) (is_wide m)
+-- the first kind whose rules a occurrence breaks
+abbrev pub kind_of_occurrence : List ℕ → List Occurrence → List Occurrence → Occurrence → Option GimpleKind
+kind_of_occurrence source all before m = first_kind (is_redefined source before m) (is_undeclared source all m) (is_wide source m)
 
--- the fault of a mention, at its place
-abbrev pub mention_fault : List ℕ → List Mention → List Mention → Mention → Option GimpleFault
-mention_fault source all before m = option_map (λ kind. fault_at kind (place_of m)) (kind_of_mention source all before m)
+-- the fault of a occurrence, at its place
+abbrev pub occurrence_fault : List ℕ → List Occurrence → List Occurrence → Occurrence → Option GimpleFault
+occurrence_fault source all before m = option_map (λ kind. fault_at kind (place_of m)) (kind_of_occurrence source all before m)
 
--- the first fault in the mentions of a function
-abbrev pub mentions_fault : List ℕ → List Mention → Option GimpleFault
-mentions_fault source all = first_by (mention_fault source all) [] all
+-- the first fault in the occurrences of a function
+abbrev pub occurrences_fault : List ℕ → List Occurrence → Option GimpleFault
+occurrences_fault source all = first_by (occurrence_fault source all) [] all
 
 abbrev pub function_text : List ℕ → FunctionText → List ℕ
 function_text source f = text_of source f.name
@@ -46,7 +46,7 @@ second_function source before f =
 
 -- the first fault of a function: its name stands before the rest
 abbrev pub function_fault : List ℕ → List FunctionText → FunctionText → Option GimpleFault
-function_fault source before f = or_fault (second_function source before f) (mentions_fault source (mentions_of source f))
+function_fault source before f = or_fault (second_function source before f) (occurrences_fault source (occurrences_of f))
 
 -- the first fault of a file
 unfoldable pub names_fault : List ℕ → List FunctionText → Option GimpleFault

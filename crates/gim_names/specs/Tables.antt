@@ -1,16 +1,16 @@
 -- What tables of texts hold.
 use Rattle.std.specs.Prelude.{◌≡◌, ℕ, Bool, true, not, ◌&&◌, option_map, List, [], ◌∷◌}
 use Rattle.std.specs.Borrow.{Bor}
-use Rattle.std.specs.List.{list_any}
+use Rattle.std.specs.List.{list_any, filter_map}
 use Rattle.std.specs.Str.{bytes_eq}
 use Rattle.std.specs.HashSet.{HashSet, contains_by}
 use Rattle.std.specs.HashMap.{HashMap, get_by}
 use Rattle.std.specs.Map.{lookup}
 use Rattle.gim_ast.specs.WellFormed.{same_text}
-use Rattle.gim_names.specs.declared.mention.Mention.{Mention}
+use Rattle.gim_text.specs.declared.occurrence.Occurrence.{Occurrence}
 use Rattle.gim_names.specs.declared.scope.Scope.{Scope}
 use Rattle.gim_names.specs.declared.past.Past.{Past}
-use Rattle.gim_names.specs.Parts.{all_said, param_text, local_text, declared_text, block_number, assigned_text, assigned_version, plain_version, default_version, version_base, base_default}
+use Rattle.gim_names.specs.Parts.{param_text, local_text, declared_text, block_number, assigned_text, assigned_version, plain_version, default_version, version_base, base_default}
 use Rattle.gim_names.specs.Rules.{has_other_second}
 
 -- the set has these texts and no others
@@ -26,23 +26,23 @@ abbrev pub have_one_each : List (List ℕ × List ℕ) → Bool
 have_one_each [] = true
 have_one_each (pair ∷ pairs) = not (list_any (has_other_second pair.0 pair.1) pairs) && have_one_each pairs
 
--- the scope has what these mentions declare and assign
-pub record Describes (source : List ℕ) (all : List Mention) (scope : Scope) : Type 0 where
-  pub params : HasTexts scope.params (all_said (param_text source) all)
-  pub locals : HasTexts scope.locals (all_said (local_text source) all)
-  pub assigned : HasTexts scope.assigned (all_said (assigned_text source) all)
+-- the scope has what these occurrences declare and assign
+pub record Describes (source : List ℕ) (all : List Occurrence) (scope : Scope) : Type 0 where
+  pub params : HasTexts scope.params (filter_map (param_text source) all)
+  pub locals : HasTexts scope.locals (filter_map (local_text source) all)
+  pub assigned : HasTexts scope.assigned (filter_map (assigned_text source) all)
 
--- the past has what these mentions say
-pub record Remembers (source : List ℕ) (before : List Mention) (past : Past) : Type 0 where
-  pub declared : HasTexts past.declared (all_said (declared_text source) before)
-  pub blocks : HasTexts past.blocks (all_said (block_number source) before)
-  pub assigned : HasTexts past.assigned (all_said (assigned_version source) before)
-  pub plain : HasTexts past.plain (all_said (plain_version source) before)
-  pub initial : HasTexts past.initial (all_said (default_version source) before)
-  pub bases : HasPairs past.bases (all_said (version_base source) before)
-  pub defaults : HasPairs past.defaults (all_said (base_default source) before)
+-- the past has what these occurrences say
+pub record Remembers (source : List ℕ) (before : List Occurrence) (past : Past) : Type 0 where
+  pub declared : HasTexts past.declared (filter_map (declared_text source) before)
+  pub blocks : HasTexts past.blocks (filter_map (block_number source) before)
+  pub assigned : HasTexts past.assigned (filter_map (assigned_version source) before)
+  pub plain : HasTexts past.plain (filter_map (plain_version source) before)
+  pub initial : HasTexts past.initial (filter_map (default_version source) before)
+  pub bases : HasPairs past.bases (filter_map (version_base source) before)
+  pub defaults : HasPairs past.defaults (filter_map (base_default source) before)
 
 -- each version has one base, and each base one default definition
-pub record IsSound (source : List ℕ) (before : List Mention) : Type 0 where
-  pub bases : have_one_each (all_said (version_base source) before) ≡ true
-  pub defaults : have_one_each (all_said (base_default source) before) ≡ true
+pub record IsSound (source : List ℕ) (before : List Occurrence) : Type 0 where
+  pub bases : have_one_each (filter_map (version_base source) before) ≡ true
+  pub defaults : have_one_each (filter_map (base_default source) before) ≡ true

@@ -5,20 +5,20 @@ ghost use Rattle.gim_ast.specs.WellFormed.{same_text, all_distinct};
 ghost use Rattle.gim_text.specs.declared.fault.GimpleFault.{GimpleFault};
 ghost use Rattle.gim_text.specs.declared.tree.BlockText.{BlockText};
 ghost use Rattle.gim_text.specs.declared.tree.FunctionText.{FunctionText};
-ghost use Rattle.gim_names.specs.declared.mention.Mention.{Mention};
+ghost use Rattle.gim_text.specs.declared.occurrence.Occurrence.{Occurrence};
 ghost use Rattle.gim_names.specs.FirstPlace.{IsFirstPlace};
-ghost use Rattle.gim_names.specs.Kept.{KeepsNames, BlockKeepsNames, AreOne, MentionsDeclare};
-ghost use Rattle.gim_names.specs.Mentions.{mentions_of};
-ghost use Rattle.gim_names.specs.NamesFault.{mention_fault, mentions_fault, function_text, function_fault, names_fault};
+ghost use Rattle.gim_names.specs.Kept.{KeepsNames, BlockKeepsNames, AreOne, OccurrencesDeclare};
+ghost use Rattle.gim_text.specs.Occurrences.{occurrences_of};
+ghost use Rattle.gim_names.specs.NamesFault.{occurrence_fault, occurrences_fault, function_text, function_fault, names_fault};
 
 /// A fault of names is that of the first function that has one.
 pub fn first_function()
     ensures { (source : List ℕ) (functions : List FunctionText) (fault : GimpleFault) → names_fault source functions ≡ Some fault → IsFirstPlace (function_fault source) functions fault }
 {}
 
-/// A fault in the mentions of a function is that of the first mention that has one.
-pub fn first_mention()
-    ensures { (source : List ℕ) (all : List Mention) (fault : GimpleFault) → mentions_fault source all ≡ Some fault → IsFirstPlace (mention_fault source all) all fault }
+/// A fault in the occurrences of a function is that of the first occurrence that has one.
+pub fn first_occurrence()
+    ensures { (source : List ℕ) (all : List Occurrence) (fault : GimpleFault) → occurrences_fault source all ≡ Some fault → IsFirstPlace (occurrence_fault source all) all fault }
 {}
 
 /// The functions of a file without a fault of names have distinct names.
@@ -36,12 +36,12 @@ pub fn blocks_keep_names()
     ensures { (source : List ℕ) (f : FunctionText) → KeepsNames source f → (block : BlockText) → Contains f.blocks block → BlockKeepsNames source f block }
 {}
 
-/// Any two of its mentions of one version have one base, and default definitions of one parameter are one.
-pub fn mentions_are_one()
-    ensures { (source : List ℕ) (f : FunctionText) → KeepsNames source f → (m n : Mention) → Contains (mentions_of source f) m → Contains (mentions_of source f) n → AreOne source m n }
+/// Any two of its occurrences of one version have one base, and default definitions of one parameter are one.
+pub fn occurrences_are_one()
+    ensures { (source : List ℕ) (f : FunctionText) → KeepsNames source f → (m n : Occurrence) → Contains (occurrences_of f) m → Contains (occurrences_of f) n → AreOne source m n }
 {}
 
-/// What the mentions of a function declare is what the function declares.
-pub fn mentions_declare()
-    ensures { (source : List ℕ) (f : FunctionText) → MentionsDeclare source f }
+/// What the occurrences of a function declare is what the function declares.
+pub fn occurrences_declare()
+    ensures { (source : List ℕ) (f : FunctionText) → OccurrencesDeclare source f }
 {}

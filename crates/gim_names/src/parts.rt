@@ -1,11 +1,10 @@
-//! What a mention says that the rules on names compare.
+//! What a occurrence says that the rules on names compare.
 
 ghost use Rattle.std.specs.Prelude.{◌≡◌, option_map};
 ghost use Rattle.gim_text.specs.Texts.{name_parts, text_of};
 ghost use Rattle.gim_names.specs.Parts as parts;
 
-use crate::mention::Mention;
-use gim_text::{Span, name_parts, text};
+use gim_text::{Occurrence, Span, name_parts, text};
 
 /// The base and the version of a name.
 pub(crate) fn parts_at(source: &[u8], at: Span) -> Option<(&[u8], &[u8])>
@@ -45,92 +44,92 @@ fn anonymous_at(source: &[u8], at: Span) -> Option<(&[u8], &[u8])>
 }
 
 /// The identifier of a parameter.
-pub(crate) fn param_text<'a>(source: &'a [u8], mention: &Mention) -> Option<&'a [u8]>
-    ensures { option_map (λ x. x.now) result ≡ parts.param_text source.now mention.now }
+pub(crate) fn param_text<'a>(source: &'a [u8], occurrence: &Occurrence) -> Option<&'a [u8]>
+    ensures { option_map (λ x. x.now) result ≡ parts.param_text source.now occurrence.now }
 {
-    match mention {
-        Mention::Param(at) => Some(text(source, *at)),
+    match occurrence {
+        Occurrence::Parameter(at) => Some(text(source, *at)),
         _ => None,
     }
 }
 
 /// The identifier of a local.
-pub(crate) fn local_text<'a>(source: &'a [u8], mention: &Mention) -> Option<&'a [u8]>
-    ensures { option_map (λ x. x.now) result ≡ parts.local_text source.now mention.now }
+pub(crate) fn local_text<'a>(source: &'a [u8], occurrence: &Occurrence) -> Option<&'a [u8]>
+    ensures { option_map (λ x. x.now) result ≡ parts.local_text source.now occurrence.now }
 {
-    match mention {
-        Mention::Local(at) => Some(text(source, *at)),
+    match occurrence {
+        Occurrence::Local(at) => Some(text(source, *at)),
         _ => None,
     }
 }
 
 /// The identifier of a parameter or a local.
-pub(crate) fn declared_text<'a>(source: &'a [u8], mention: &Mention) -> Option<&'a [u8]>
-    ensures { option_map (λ x. x.now) result ≡ parts.declared_text source.now mention.now }
+pub(crate) fn declared_text<'a>(source: &'a [u8], occurrence: &Occurrence) -> Option<&'a [u8]>
+    ensures { option_map (λ x. x.now) result ≡ parts.declared_text source.now occurrence.now }
 {
-    match mention {
-        Mention::Param(at) | Mention::Local(at) => Some(text(source, *at)),
+    match occurrence {
+        Occurrence::Parameter(at) | Occurrence::Local(at) => Some(text(source, *at)),
         _ => None,
     }
 }
 
 /// The number of a block.
-pub(crate) fn block_number<'a>(source: &'a [u8], mention: &Mention) -> Option<&'a [u8]>
-    ensures { option_map (λ x. x.now) result ≡ parts.block_number source.now mention.now }
+pub(crate) fn block_number<'a>(source: &'a [u8], occurrence: &Occurrence) -> Option<&'a [u8]>
+    ensures { option_map (λ x. x.now) result ≡ parts.block_number source.now occurrence.now }
 {
-    match mention {
-        Mention::Block(at) => Some(text(source, *at)),
+    match occurrence {
+        Occurrence::Block(at) => Some(text(source, *at)),
         _ => None,
     }
 }
 
 /// The whole identifier of a name that is assigned.
-pub(crate) fn assigned_text<'a>(source: &'a [u8], mention: &Mention) -> Option<&'a [u8]>
-    ensures { option_map (λ x. x.now) result ≡ parts.assigned_text source.now mention.now }
+pub(crate) fn assigned_text<'a>(source: &'a [u8], occurrence: &Occurrence) -> Option<&'a [u8]>
+    ensures { option_map (λ x. x.now) result ≡ parts.assigned_text source.now occurrence.now }
 {
-    match mention {
-        Mention::Assigned(at) => Some(text(source, *at)),
+    match occurrence {
+        Occurrence::Assigned(at) => Some(text(source, *at)),
         _ => None,
     }
 }
 
 /// The version of a name that is assigned.
-pub(crate) fn assigned_version<'a>(source: &'a [u8], mention: &Mention) -> Option<&'a [u8]>
-    ensures { option_map (λ x. x.now) result ≡ parts.assigned_version source.now mention.now }
+pub(crate) fn assigned_version<'a>(source: &'a [u8], occurrence: &Occurrence) -> Option<&'a [u8]>
+    ensures { option_map (λ x. x.now) result ≡ parts.assigned_version source.now occurrence.now }
 {
-    match mention {
-        Mention::Assigned(at) => version_at(source, *at),
+    match occurrence {
+        Occurrence::Assigned(at) => version_at(source, *at),
         _ => None,
     }
 }
 
 /// The version of a name without `(D)`.
-pub(crate) fn plain_version<'a>(source: &'a [u8], mention: &Mention) -> Option<&'a [u8]>
-    ensures { option_map (λ x. x.now) result ≡ parts.plain_version source.now mention.now }
+pub(crate) fn plain_version<'a>(source: &'a [u8], occurrence: &Occurrence) -> Option<&'a [u8]>
+    ensures { option_map (λ x. x.now) result ≡ parts.plain_version source.now occurrence.now }
 {
-    match mention {
-        Mention::Assigned(at) | Mention::Used(at) => version_at(source, *at),
+    match occurrence {
+        Occurrence::Assigned(at) | Occurrence::Used(at) => version_at(source, *at),
         _ => None,
     }
 }
 
 /// The version of a name with `(D)`.
-pub(crate) fn default_version<'a>(source: &'a [u8], mention: &Mention) -> Option<&'a [u8]>
-    ensures { option_map (λ x. x.now) result ≡ parts.default_version source.now mention.now }
+pub(crate) fn default_version<'a>(source: &'a [u8], occurrence: &Occurrence) -> Option<&'a [u8]>
+    ensures { option_map (λ x. x.now) result ≡ parts.default_version source.now occurrence.now }
 {
-    match mention {
-        Mention::UsedDefault(at) => version_at(source, *at),
+    match occurrence {
+        Occurrence::Default(at) => version_at(source, *at),
         _ => None,
     }
 }
 
 /// The version and the base of a name, or of a local that is an anonymous name.
-pub(crate) fn version_base<'a>(source: &'a [u8], mention: &Mention) -> Option<(&'a [u8], &'a [u8])>
-    ensures { option_map (λ x. (x.0.now, x.1.now)) result ≡ parts.version_base source.now mention.now }
+pub(crate) fn version_base<'a>(source: &'a [u8], occurrence: &Occurrence) -> Option<(&'a [u8], &'a [u8])>
+    ensures { option_map (λ x. (x.0.now, x.1.now)) result ≡ parts.version_base source.now occurrence.now }
 {
-    match mention {
-        Mention::Local(at) => anonymous_at(source, *at),
-        Mention::Assigned(at) | Mention::Used(at) | Mention::UsedDefault(at) => {
+    match occurrence {
+        Occurrence::Local(at) => anonymous_at(source, *at),
+        Occurrence::Assigned(at) | Occurrence::Used(at) | Occurrence::Default(at) => {
             based_at(source, *at)
         }
         _ => None,
@@ -138,11 +137,11 @@ pub(crate) fn version_base<'a>(source: &'a [u8], mention: &Mention) -> Option<(&
 }
 
 /// The base and the version of a default definition.
-pub(crate) fn base_default<'a>(source: &'a [u8], mention: &Mention) -> Option<(&'a [u8], &'a [u8])>
-    ensures { option_map (λ x. (x.0.now, x.1.now)) result ≡ parts.base_default source.now mention.now }
+pub(crate) fn base_default<'a>(source: &'a [u8], occurrence: &Occurrence) -> Option<(&'a [u8], &'a [u8])>
+    ensures { option_map (λ x. (x.0.now, x.1.now)) result ≡ parts.base_default source.now occurrence.now }
 {
-    match mention {
-        Mention::UsedDefault(at) => parts_at(source, *at),
+    match occurrence {
+        Occurrence::Default(at) => parts_at(source, *at),
         _ => None,
     }
 }

@@ -1,19 +1,19 @@
-//! What stood before a mention.
+//! What stood before a occurrence.
 
 ghost use Rattle.std.specs.Prelude.{◌≡◌, ℕ, List, [], ◌∷◌, IfOk, OnOk};
 ghost use Rattle.gim_names.specs.Tables.{Remembers};
 
-use crate::mention::Mention;
 use crate::parts::{
     assigned_version, base_default, block_number, declared_text, default_version, plain_version,
     version_base,
 };
 use crate::tables::{put, put_pair};
+use gim_text::Occurrence;
 use pm_ops::OutOfMemory;
 use std::alloc::Global;
 use std::collections::{HashMap, HashSet};
 
-/// The mentions before, by what the rules compare.
+/// The occurrences before, by what the rules compare.
 #[derive(Drop)]
 pub(crate) struct Past<'a> {
     /// Parameters and locals.
@@ -48,16 +48,16 @@ impl<'a> Past<'a> {
         }
     }
 
-    /// Notes one more mention.
-    pub fn note(&mut self, source: &'a [u8], mention: &Mention) -> Result<(), OutOfMemory>
-        ensures { (before : List Mention) → Remembers source.now before self.old → OnOk result (Remembers source.now (mention.now ∷ before) self.new) }
+    /// Notes one more occurrence.
+    pub fn note(&mut self, source: &'a [u8], occurrence: &Occurrence) -> Result<(), OutOfMemory>
+        ensures { (before : List Occurrence) → Remembers source.now before self.old → OnOk result (Remembers source.now (occurrence.now ∷ before) self.new) }
     {
-        put(&mut self.declared, declared_text(source, mention))?;
-        put(&mut self.blocks, block_number(source, mention))?;
-        put(&mut self.assigned, assigned_version(source, mention))?;
-        put(&mut self.plain, plain_version(source, mention))?;
-        put(&mut self.initial, default_version(source, mention))?;
-        put_pair(&mut self.bases, version_base(source, mention))?;
-        put_pair(&mut self.defaults, base_default(source, mention))
+        put(&mut self.declared, declared_text(source, occurrence))?;
+        put(&mut self.blocks, block_number(source, occurrence))?;
+        put(&mut self.assigned, assigned_version(source, occurrence))?;
+        put(&mut self.plain, plain_version(source, occurrence))?;
+        put(&mut self.initial, default_version(source, occurrence))?;
+        put_pair(&mut self.bases, version_base(source, occurrence))?;
+        put_pair(&mut self.defaults, base_default(source, occurrence))
     }
 }

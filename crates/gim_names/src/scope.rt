@@ -3,9 +3,9 @@
 ghost use Rattle.std.specs.Prelude.{◌≡◌, ℕ, List, [], ◌∷◌, IfOk, OnOk};
 ghost use Rattle.gim_names.specs.Tables.{Describes};
 
-use crate::mention::Mention;
 use crate::parts::{assigned_text, local_text, param_text};
 use crate::tables::put;
+use gim_text::Occurrence;
 use pm_ops::OutOfMemory;
 use std::alloc::Global;
 use std::collections::HashSet;
@@ -30,28 +30,28 @@ impl<'a> Scope<'a> {
         }
     }
 
-    /// Notes what a mention declares or assigns.
-    fn note(&mut self, source: &'a [u8], mention: &Mention) -> Result<(), OutOfMemory>
-        ensures { (all : List Mention) → Describes source.now all self.old → OnOk result (Describes source.now (mention.now ∷ all) self.new) }
+    /// Notes what a occurrence declares or assigns.
+    fn note(&mut self, source: &'a [u8], occurrence: &Occurrence) -> Result<(), OutOfMemory>
+        ensures { (all : List Occurrence) → Describes source.now all self.old → OnOk result (Describes source.now (occurrence.now ∷ all) self.new) }
     {
-        put(&mut self.params, param_text(source, mention))?;
-        put(&mut self.locals, local_text(source, mention))?;
-        put(&mut self.assigned, assigned_text(source, mention))
+        put(&mut self.params, param_text(source, occurrence))?;
+        put(&mut self.locals, local_text(source, occurrence))?;
+        put(&mut self.assigned, assigned_text(source, occurrence))
     }
 
-    /// What these mentions declare and assign.
+    /// What these occurrences declare and assign.
     pub fn of(
         alloc: Global,
         source: &'a [u8],
-        mentions: &[Mention],
+        occurrences: &[Occurrence],
     ) -> Result<Scope<'a>, OutOfMemory>
-        ensures { IfOk result (λ scope. Describes source.now mentions.now scope) }
+        ensures { IfOk result (λ scope. Describes source.now occurrences.now scope) }
     {
         let mut scope = Scope::new(alloc);
-        let mut at = mentions.len();
+        let mut at = occurrences.len();
         while at > 0 {
             at -= 1;
-            scope.note(source, &mentions[at])?;
+            scope.note(source, &occurrences[at])?;
         }
         Ok(scope)
     }

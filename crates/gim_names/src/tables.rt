@@ -1,7 +1,7 @@
 //! Tables of texts of the source.
 
 ghost use Rattle.std.specs.Prelude.{◌≡◌, ℕ, List, option_map, OnOk, true};
-ghost use Rattle.gim_names.specs.Parts.{with_some};
+ghost use Rattle.std.specs.List.{cons_option};
 ghost use Rattle.gim_names.specs.Rules.{stands, differs};
 ghost use Rattle.gim_names.specs.Tables.{HasTexts, HasPairs, have_one_each};
 
@@ -23,7 +23,7 @@ pub(crate) fn put<'a>(
     set: &mut HashSet<&'a [u8]>,
     text: Option<&'a [u8]>,
 ) -> Result<(), OutOfMemory>
-    ensures { (texts : List (List ℕ)) → HasTexts set.old texts → OnOk result (HasTexts set.new (with_some (option_map (λ t. t.now) text.entry) texts)) }
+    ensures { (texts : List (List ℕ)) → HasTexts set.old texts → OnOk result (HasTexts set.new (cons_option (option_map (λ t. t.now) text.entry) texts)) }
 {
     if let Some(text) = text {
         set.insert(text)?;
@@ -56,7 +56,7 @@ pub(crate) fn put_pair<'a>(
     map: &mut HashMap<&'a [u8], &'a [u8]>,
     pair: Option<(&'a [u8], &'a [u8])>,
 ) -> Result<(), OutOfMemory>
-    ensures { (pairs : List (List ℕ × List ℕ)) → HasPairs map.old pairs → OnOk result (HasPairs map.new (with_some (option_map (λ p. (p.0.now, p.1.now)) pair.entry) pairs)) }
+    ensures { (pairs : List (List ℕ × List ℕ)) → HasPairs map.old pairs → OnOk result (HasPairs map.new (cons_option (option_map (λ p. (p.0.now, p.1.now)) pair.entry) pairs)) }
 {
     if let Some((key, value)) = pair {
         map.insert(key, value)?;

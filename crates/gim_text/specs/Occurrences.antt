@@ -94,3 +94,8 @@ operand_at occurrence = None
 abbrev pub jump_at : Occurrence → Option Span
 jump_at (Jump at) = Some at
 jump_at occurrence = None
+
+-- the number at the head of a block
+abbrev pub block_at : Occurrence → Option Span
+block_at (Block at) = Some at
+block_at occurrence = None

@@ -17,7 +17,7 @@ mod tree;
 pub use fault::{GimpleFault, GimpleKind, Part, TokenFault, TokenStop};
 pub use literals::{constant, literal};
 pub use meaning::{block_word, identifier, keyword, mark, number, type_word};
-pub use occurrence::{Occurrence, occurrences};
+pub use occurrence::{Occurrence, block_at, name_at, occurrences};
 pub use texts::{is_digit, is_number_text, leading_digits, name_parts, number_below, text};
 pub use token::{Keyword, Mark, NumberKind, Span, Token, TypeWord};
 pub use tree::{

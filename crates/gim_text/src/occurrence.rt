@@ -2,8 +2,10 @@
 
 ghost use Rattle.std.specs.Prelude.{◌≡◌, [], ◌∷◌, ◌++◌, map, IfOk, OnOk};
 ghost use Rattle.std.specs.List.{flat_map};
-ghost use Rattle.gim_text.specs.Occurrences.{place_of, occurrence_of_parameter, occurrence_of_local, occurrence_of_operand, occurrences_of_argument, occurrences_of_right, occurrences_of_item, occurrences_of_end, occurrences_of_block, occurrences_of};
+ghost use Rattle.gim_text.specs.Occurrences.{place_of, occurrence_of_parameter, occurrence_of_local, occurrence_of_operand, occurrences_of_argument, occurrences_of_right, occurrences_of_item, occurrences_of_end, occurrences_of_block, occurrences_of, name_at, block_at};
+ghost use Rattle.gim_ast.specs.Identifiers.{is_anonymous};
 
+use crate::texts::{is_number_text, text};
 use crate::token::Span;
 use crate::tree::{
     ArgText, BlockText, DeclText, EndText, FunctionText, ItemText, LiteralText, OperandText,
@@ -202,4 +204,35 @@ pub fn occurrences(alloc: Global, function: &FunctionText) -> Result<Items<Occur
     push_locals(&mut out, function.decls.as_slice())?;
     push_blocks(&mut out, function.blocks.as_slice())?;
     Ok(out)
+}
+
+/// Whether the text is `_` and a number: a name without a base.
+fn is_anonymous(text: &[u8]) -> bool
+    ensures { result ≡ is_anonymous text.now }
+{
+    match text {
+        [first, rest @ ..] => *first == b'_' && is_number_text(rest),
+        [] => false,
+    }
+}
+
+/// The place of a name: an anonymous local, or a name that is assigned or read.
+pub fn name_at(source: &[u8], occurrence: &Occurrence) -> Option<Span>
+    ensures { result ≡ name_at source.now occurrence.now }
+{
+    match occurrence {
+        Occurrence::Local(at) if is_anonymous(text(source, *at)) => Some(*at),
+        Occurrence::Assigned(at) | Occurrence::Used(at) | Occurrence::Default(at) => Some(*at),
+        _ => None,
+    }
+}
+
+/// The number at the head of a block.
+pub fn block_at(occurrence: &Occurrence) -> Option<Span>
+    ensures { result ≡ block_at occurrence.now }
+{
+    match occurrence {
+        Occurrence::Block(at) => Some(*at),
+        _ => None,
+    }
 }

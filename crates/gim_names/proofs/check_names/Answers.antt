@@ -4,8 +4,8 @@ use Rattle.std.specs.Str.{bytes_eq}
 use Rattle.std.specs.HashSet.{contains_by}
 use Rattle.std.proofs.lemmas.Bool.{not-true, not-false}
 use Rattle.gim_ast.specs.WellFormed.{same_text}
-use Rattle.gim_names.specs.NamesFault.{mentions_fault, function_text, names_fault}
-use Rattle.gim_names.specs.Mentions.{mentions_of}
+use Rattle.gim_names.specs.NamesFault.{occurrences_fault, function_text, names_fault}
+use Rattle.gim_text.specs.Occurrences.{occurrences_of}
 use Rattle.gim_names.specs.Tables.{HasTexts}
 use Rattle.gim_names.proofs.Judging.{is_fault, is_fault_of, judges_err, names_begin, functions_second, functions_fault, functions_more}
 use Rattle.gim_names.proofs.TableLemmas.{put_step, none_has, item_is}
@@ -39,7 +39,7 @@ returns-in_err-check_function c =
     let known : contains_by (λ k. bytes_eq text k.now) c.loop-function.known ≡ false = not-true (contains_by (λ k. bytes_eq text k.now) c.loop-function.known) (sym c.in_ok-insert.ensures.added ∙ c.if-not-branch.false) in
     let again = subst (λ (x : List ℕ). list_any (same_text x) (map (function_text source) judged.before) ≡ false) c.text.ensures (sym (judged.knows text) ∙ known) in
     judges_err c.from_residual-in_err-check_function.result fault (names_fault source all) c.from_residual-in_err-check_function.ensures.1
-    (is_fault_of fault.kind fault (mentions_fault source (mentions_of source f)) (names_fault source all)
+    (is_fault_of fault.kind fault (occurrences_fault source (occurrences_of f)) (names_fault source all)
     (λ e. functions_fault source all (drop at all) c.loop-function.known f (drop (at + 1) all) judged (item_is all at f c.loop-function-test.true c.function-item.is) fault again e) c.in_err-check_function.ensures)
 
 pub loop-function-preserved : goal.loop-function-preserved

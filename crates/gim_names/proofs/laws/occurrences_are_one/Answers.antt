@@ -1,5 +1,5 @@
 use Rattle.gim_names.proofs.KeptParts.{are_one}
-use Rattle.gim_names.proofs.laws.mentions_are_one.Goals as goal
+use Rattle.gim_names.proofs.laws.occurrences_are_one.Goals as goal
 
 pub returns : goal.returns
 returns c = are_one

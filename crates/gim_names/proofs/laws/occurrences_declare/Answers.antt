@@ -1,5 +1,5 @@
 use Rattle.gim_names.proofs.Saying.{declares}
-use Rattle.gim_names.proofs.laws.mentions_declare.Goals as goal
+use Rattle.gim_names.proofs.laws.occurrences_declare.Goals as goal
 
 pub returns : goal.returns
 returns c = declares

@@ -1,6 +1,0 @@
-use Rattle.gim_names.specs.NamesFault.{mention_fault}
-use Rattle.gim_names.proofs.Places.{first_place}
-use Rattle.gim_names.proofs.laws.first_mention.Goals as goal
-
-pub returns : goal.returns
-returns c = λ source all fault e. first_place (mention_fault source all) all fault e
