@@ -14,6 +14,7 @@ use Rattle.gim_round_trip.proofs.rules.NamesSound.{names_sound}
 use Rattle.gim_round_trip.proofs.rules.ShapeSound.{shape_sound}
 use Rattle.gim_round_trip.proofs.rules.TypesSound.{types_sound, trees_stand}
 use Rattle.gim_round_trip.proofs.rules.LimitsSound.{limits_sound}
+use Rattle.gim_round_trip.proofs.tree.Writes.{all_write_well}
 
 no_rule_broken : (source : List ℕ) (trees : List FunctionText) → names_fault source trees ≡ None → shape_fault source trees ≡ None → types_fault source trees ≡ None → limits_fault source trees ≡ None
     → rules_fault source trees ≡ None
@@ -23,9 +24,8 @@ no_rule_broken source trees names shape types limits = rw (names, shape, types, 
 pub read_back : (fs : List Function) → MayBeReadBack fs → IsFile (text fs) fs
 read_back fs may =
     let source = text fs in
-    let well = may.well_formed in
-    let within = may.within in
-    let r = text_reads fs well within in
+    let r = text_reads fs may.well_formed may.within in
+    let written = all_write_well source r.trees fs r.written may.well_formed may.within in
     record {
       within = may.short;
       tokens = r.tokens;
@@ -34,10 +34,7 @@ read_back fs may =
         trees = r.trees;
         spelled = r.spelled;
         kept = no_rule_broken source r.trees
-            (names_sound source r.trees fs r.written well within may.distinct)
-            (shape_sound source r.trees fs r.written well within)
-            (types_sound source r.trees fs r.written well within)
-            (limits_sound source r.trees fs r.written well within);
-        stand = trees_stand source r.trees fs r.written well within;
+            (names_sound source r.trees fs written may.distinct) (shape_sound source r.trees fs written) (types_sound source r.trees fs written) (limits_sound source r.trees fs written);
+        stand = trees_stand source r.trees fs written;
       };
     }

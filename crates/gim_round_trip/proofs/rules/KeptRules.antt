@@ -1,15 +1,14 @@
 -- Rules that no element of a list breaks, each judged by those before it, the latest of them first.
 use Rattle.std.proofs.Common.{◌≡◌, ℕ, Bool, true, false, Option, Some, None, List, [], ◌∷◌, refl, sym, ap, subst, ◌∙◌, inl, inr}
 use Rattle.std.specs.Prelude.{◌||◌, not}
-use Rattle.std.specs.List.{list_any}
+use Rattle.std.specs.List.{list_any, filter_map, cons_option}
 use Rattle.std.proofs.lemmas.Bool.{and_parts, or_parts, or_from, not-true, false≢true}
 use Rattle.gim_ast.specs.WellFormed.{same_text, all_distinct}
-use Rattle.gim_names.specs.Parts.{with_some, all_said}
 use Rattle.gim_names.specs.Rules.{stands, differs, has_other_second}
 use Rattle.gim_names.proofs.TableLemmas.{same_text_symm}
 use Rattle.gim_making.proofs.Membership.{Has, none_from_has}
 use Rattle.gim_making.proofs.PartLemmas.{text_itself, same_text_is}
-use Rattle.gim_making.proofs.PlaceLemmas.{has_said, from_said}
+use Rattle.gim_round_trip.proofs.tree.Kept.{has_kept, from_kept}
 
 -- the rule is broken at no element
 abbrev pub NeverBy : {X : Type 0} → (List X → X → Bool) → List X → List X → Type 0
@@ -45,10 +44,10 @@ AreApart known later = (t : List ℕ) → Has known t → list_any (same_text t)
 
 record IsNew (o : Option (List ℕ)) (known later : List (List ℕ)) : Type 0 where
   here : stands o known ≡ false
-  apart : AreApart (with_some o known) later
+  apart : AreApart (cons_option o known) later
   distinct : all_distinct same_text later ≡ true
 
-new_by : (o : Option (List ℕ)) (known later : List (List ℕ)) → AreApart known (with_some o later) → all_distinct same_text (with_some o later) ≡ true → IsNew o known later
+new_by : (o : Option (List ℕ)) (known later : List (List ℕ)) → AreApart known (cons_option o later) → all_distinct same_text (cons_option o later) ≡ true → IsNew o known later
 new_by None known later apart distinct = record { here = refl; apart = apart; distinct = distinct }
 new_by (Some x) known later apart distinct =
     let d = and_parts (not (list_any (same_text x) later)) (all_distinct same_text later) distinct in
@@ -61,40 +60,40 @@ new_by (Some x) known later apart distinct =
       grown new t (inl e) = subst (λ u. list_any (same_text u) later ≡ false) e (not-true (list_any (same_text x) later) new)
       grown new t (inr there) = (or_parts (same_text t x) (list_any (same_text t) later) (apart t there)).1
 
-never_again : {M : Type 0} (says : M → Option (List ℕ)) (before ms : List M) → AreApart (all_said says before) (all_said says ms) → all_distinct same_text (all_said says ms) ≡ true
-    → NeverBy (λ b m. stands (says m) (all_said says b)) before ms
+never_again : {M : Type 0} (says : M → Option (List ℕ)) (before ms : List M) → AreApart (filter_map says before) (filter_map says ms) → all_distinct same_text (filter_map says ms) ≡ true
+    → NeverBy (λ b m. stands (says m) (filter_map says b)) before ms
 never_again says before [] apart distinct = tt
 never_again says before (m ∷ ms) apart distinct =
-    let new = new_by (says m) (all_said says before) (all_said says ms) apart distinct in
+    let new = new_by (says m) (filter_map says before) (filter_map says ms) apart distinct in
     (new.here, never_again says (m ∷ before) ms new.apart new.distinct)
 
-pub never_twice : {M : Type 0} (says : M → Option (List ℕ)) (all : List M) → all_distinct same_text (all_said says all) ≡ true → NeverBy (λ b m. stands (says m) (all_said says b)) [] all
+pub never_twice : {M : Type 0} (says : M → Option (List ℕ)) (all : List M) → all_distinct same_text (filter_map says all) ≡ true → NeverBy (λ b m. stands (says m) (filter_map says b)) [] all
 never_twice says all distinct = never_again says [] all (λ t there. absurd there) distinct
 
 -- ---- no two say what contradicts
 
 -- nothing that one says is what the other says
-pub never_both : {M : Type 0} (one other : M → Option (List ℕ)) (all : List M) → ((x y : List ℕ) → Has (all_said one all) x → Has (all_said other all) y → y ≡ x → ⊥) → NeverBy (λ b m. stands (other m) (all_said one b)) [] all
-never_both one other all apart = never_among (λ b m. stands (other m) (all_said one b)) all (λ before m within there. by before m within there (other m) refl) where
-  by : (before : List _) (m : _) → ((n : _) → Has before n → Has all n) → Has all m → (o : Option (List ℕ)) → other m ≡ o → stands o (all_said one before) ≡ false
+pub never_both : {M : Type 0} (one other : M → Option (List ℕ)) (all : List M) → ((x y : List ℕ) → Has (filter_map one all) x → Has (filter_map other all) y → y ≡ x → ⊥) → NeverBy (λ b m. stands (other m) (filter_map one b)) [] all
+never_both one other all apart = never_among (λ b m. stands (other m) (filter_map one b)) all (λ before m within there. by before m within there (other m) refl) where
+  by : (before : List _) (m : _) → ((n : _) → Has before n → Has all n) → Has all m → (o : Option (List ℕ)) → other m ≡ o → stands o (filter_map one before) ≡ false
   by before m within there None is = refl
   by before m within there (Some y) is =
-      none_from_has (same_text y) (all_said one before) (λ x said same.
-      let n = from_said one before x said in
-      apart x y (has_said one all n.0 x (within n.0 n.1) n.2) (has_said other all m y there is) (same_text_is y x same))
+      none_from_has (same_text y) (filter_map one before) (λ x said same.
+      let n = from_kept one before x said in
+      apart x y (has_kept one all n.0 x (within n.0 n.1) n.2) (has_kept other all m y there is) (same_text_is y x same))
 
 -- pairs of one first part have one second part
-pub never_differs : {M : Type 0} (says : M → Option (List ℕ × List ℕ)) (all : List M) → ((p q : List ℕ × List ℕ) → Has (all_said says all) p → Has (all_said says all) q → p.0 ≡ q.0 → p.1 ≡ q.1)
-    → NeverBy (λ b m. differs (says m) (all_said says b)) [] all
-never_differs says all agree = never_among (λ b m. differs (says m) (all_said says b)) all (λ before m within there. by before m within there (says m) refl) where
+pub never_differs : {M : Type 0} (says : M → Option (List ℕ × List ℕ)) (all : List M) → ((p q : List ℕ × List ℕ) → Has (filter_map says all) p → Has (filter_map says all) q → p.0 ≡ q.0 → p.1 ≡ q.1)
+    → NeverBy (λ b m. differs (says m) (filter_map says b)) [] all
+never_differs says all agree = never_among (λ b m. differs (says m) (filter_map says b)) all (λ before m within there. by before m within there (says m) refl) where
   alike : (p q : List ℕ × List ℕ) → (p.0 ≡ q.0 → p.1 ≡ q.1) → has_other_second p.0 p.1 q ≡ true → ⊥
   alike p q one other =
       let h = and_parts (same_text p.0 q.0) (not (same_text p.1 q.1)) other in
       false≢true (ap not (sym (ap (same_text p.1) (sym (one (same_text_is p.0 q.0 h.0))) ∙ text_itself p.1)) ∙ h.1)
 
-  by : (before : List _) (m : _) → ((n : _) → Has before n → Has all n) → Has all m → (o : Option (List ℕ × List ℕ)) → says m ≡ o → differs o (all_said says before) ≡ false
+  by : (before : List _) (m : _) → ((n : _) → Has before n → Has all n) → Has all m → (o : Option (List ℕ × List ℕ)) → says m ≡ o → differs o (filter_map says before) ≡ false
   by before m within there None is = refl
   by before m within there (Some p) is =
-      none_from_has (has_other_second p.0 p.1) (all_said says before) (λ q said other.
-      let n = from_said says before q said in
-      alike p q (agree p q (has_said says all m p there is) (has_said says all n.0 q (within n.0 n.1) n.2)) other)
+      none_from_has (has_other_second p.0 p.1) (filter_map says before) (λ q said other.
+      let n = from_kept says before q said in
+      alike p q (agree p q (has_kept says all m p there is) (has_kept says all n.0 q (within n.0 n.1) n.2)) other)

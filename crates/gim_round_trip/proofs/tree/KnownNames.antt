@@ -28,20 +28,10 @@ use Rattle.gim_making.specs.Trees.{no_word, operand_of}
 use Rattle.gim_making.proofs.Membership.{Has, has_left, has_right, has_map, any_has, none_has, none_from_has}
 use Rattle.gim_making.proofs.PartLemmas.{text_itself, same_text_is}
 use Rattle.gim_round_trip.specs.ReadBack.{IsWithinLimits}
-use Rattle.gim_round_trip.proofs.tree.Rows.{name_facts, number_of_decimal, each_operand_holds, operand_row}
-use Rattle.gim_round_trip.proofs.tree.Writes.{Writes, WritesDecl, WritesOperand}
-
--- a tree, and the well-formed function within the limits that it writes
-pub record WritesWell (source : List ℕ) (tree : FunctionText) (f : Function) : Type 0 where
-  pub writes : Writes source tree f
-  pub well : IsWellFormed f
-  pub within : IsWithinLimits f
-
-pub all_write_well : (source : List ℕ) (trees : List FunctionText) (fs : List Function) → AllZip (Writes source) trees fs → AllByRecursion IsWellFormed fs → AllByRecursion IsWithinLimits fs → AllZip (WritesWell source) trees fs
-all_write_well source [] [] written well limits = tt
-all_write_well source [] (f ∷ fs) written well limits = absurd written
-all_write_well source (tree ∷ trees) [] written well limits = absurd written
-all_write_well source (tree ∷ trees) (f ∷ fs) written well limits = (record { writes = written.0; well = well.0; within = limits.0 }, all_write_well source trees fs written.1 well.1 limits.1)
+use Rattle.gim_round_trip.proofs.tree.Rows.{name_facts}
+use Rattle.gim_round_trip.proofs.tree.SmallNumbers.{number_of_decimal}
+use Rattle.gim_round_trip.proofs.tree.WellFormedParts.{each_operand_holds, operand_row}
+use Rattle.gim_round_trip.proofs.tree.Writes.{WritesWell, WritesDecl, WritesOperand}
 
 -- ---- distinct identifiers
 

@@ -1,6 +1,6 @@
 -- The tree of a printed function writes that function, part by part.
 use Rattle.std.specs.Prelude.{◌≡◌, ℕ, true, false, Option, Some, List, [], ◌∷◌, ◌++◌}
-use Rattle.std.specs.List.{AllZip}
+use Rattle.std.specs.List.{AllZip, AllByRecursion}
 use Rattle.std.specs.Fmt.{decimal}
 use Rattle.pm_ops.specs.declared.code.Code.TheVariants as codes
 use Rattle.pm_wide.specs.Types.{Ty}
@@ -16,6 +16,7 @@ use Rattle.gim_ast.specs.declared.function.Rhs.TheVariants as sides
 use Rattle.gim_ast.specs.declared.function.End.{End}
 use Rattle.gim_ast.specs.declared.function.End.TheVariants as ends
 use Rattle.gim_ast.specs.Printing.{assigned_text, is_initial, type_of_name}
+use Rattle.gim_ast.specs.WellFormed.{IsWellFormed}
 use Rattle.gim_text.specs.declared.token.Span.{Span}
 use Rattle.gim_text.specs.declared.tree.FunctionText.{FunctionText}
 use Rattle.gim_text.specs.declared.tree.DeclText.{DeclText}
@@ -31,6 +32,7 @@ use Rattle.gim_text.specs.declared.tree.EndText.{EndText}
 use Rattle.gim_text.specs.declared.tree.EndText.TheVariants.{Goto, If, Return}
 use Rattle.gim_text.specs.Literals.{literal_word}
 use Rattle.gim_text.specs.Texts.{text_of, block_digits}
+use Rattle.gim_round_trip.specs.ReadBack.{IsWithinLimits}
 
 -- a name as it stands where it is assigned, and as a default definition before its mark; a constant by its word
 abbrev pub WritesOperand : List ℕ → Function → OperandText → Operand → Type 0
@@ -89,3 +91,15 @@ pub record Writes (source : List ℕ) (tree : FunctionText) (f : Function) : Typ
   pub params : AllZip (WritesDecl source) tree.params f.params
   pub decls : AllZip (WritesDecl source) tree.decls f.decls
   pub blocks : AllZip (WritesBlock source f) tree.blocks f.blocks
+
+-- a tree, and the well-formed function within the limits that it writes
+pub record WritesWell (source : List ℕ) (tree : FunctionText) (f : Function) : Type 0 where
+  pub writes : Writes source tree f
+  pub well : IsWellFormed f
+  pub within : IsWithinLimits f
+
+pub all_write_well : (source : List ℕ) (trees : List FunctionText) (fs : List Function) → AllZip (Writes source) trees fs → AllByRecursion IsWellFormed fs → AllByRecursion IsWithinLimits fs → AllZip (WritesWell source) trees fs
+all_write_well source [] [] written well limits = tt
+all_write_well source [] (f ∷ fs) written well limits = absurd written
+all_write_well source (tree ∷ trees) [] written well limits = absurd written
+all_write_well source (tree ∷ trees) (f ∷ fs) written well limits = (record { writes = written.0; well = well.0; within = limits.0 }, all_write_well source trees fs written.1 well.1 limits.1)
