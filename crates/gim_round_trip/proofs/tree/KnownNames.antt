@@ -95,76 +95,75 @@ none_declared source ident (tree ∷ trees) (d ∷ decls) written other =
     false_from_ne_true (same_text ident (text_of source tree.ident)) (λ same. other (inl (sym (same_text_is ident (text_of source tree.ident) same ∙ written.0.0)))) in
     ap (λ b. cond b (Some tree.ty) (declared_type source ident trees)) first ∙ none_declared source ident trees decls written.1 (λ there. other (inr there))
 
-param_type : (source : List ℕ) (tree : FunctionText) (f : Function) → WritesWell source tree f → (ident : List ℕ) (t : Ty) → declares_as ident t f.params ≡ true → declared_type source ident tree.params ≡ Some t
-param_type source tree f w ident t h =
-    let d = declared_as ident t f.params h in
-    let distinct = front_distinct (map ident_of f.params) (map ident_of f.decls) (idents_distinct f w.well) in
-    ap (λ i. declared_type source i tree.params) (sym d.2) ∙ type_declared source tree.params f.params w.writes.params distinct d.0 d.1 ∙ ap Some d.3
-
-local_type : (source : List ℕ) (tree : FunctionText) (f : Function) → WritesWell source tree f → (ident : List ℕ) (t : Ty) → declares_as ident t f.decls ≡ true → declared_type source ident tree.decls ≡ Some t
-local_type source tree f w ident t h =
-    let d = declared_as ident t f.decls h in
-    let distinct = rest_distinct (map ident_of f.params) (map ident_of f.decls) (idents_distinct f w.well) in
-    ap (λ i. declared_type source i tree.decls) (sym d.2) ∙ type_declared source tree.decls f.decls w.writes.decls distinct d.0 d.1 ∙ ap Some d.3
-
--- a local is no parameter
-no_param_type : (source : List ℕ) (tree : FunctionText) (f : Function) → WritesWell source tree f → (ident : List ℕ) (t : Ty) → declares_as ident t f.decls ≡ true → declared_type source ident tree.params ≡ None
-no_param_type source tree f w ident t h =
-    let d = declared_as ident t f.decls h in
-    let local : Has (map ident_of f.decls) ident = subst (Has (map ident_of f.decls)) d.2 (has_map ident_of f.decls d.0 d.1) in
-    none_declared source ident tree.params f.params w.writes.params (λ there. apart (map ident_of f.params) (map ident_of f.decls) (idents_distinct f w.well) ident there local)
-
--- the declaration of a row's base, or of the whole name, gives its type
-base_type : (source : List ℕ) (tree : FunctionText) (f : Function) → WritesWell source tree f → (row : NameRow) → base_holds f row ≡ true
-    → type_by_base (declarations_of source tree) (row.base ++ 95 ∷ decimal row.version) row.base ≡ Some row.ty
-base_type source tree f w row holds = by row.base holds where
-  by : (base : List ℕ) → cond (same_text base []) (not row.initial && declares_as (anonymous row.version) row.ty f.decls) (declares_as base row.ty f.params || (not row.initial && declares_as base row.ty f.decls)) ≡ true
-      → type_by_base (declarations_of source tree) (base ++ 95 ∷ decimal row.version) base ≡ Some row.ty
-  by [] h = local_type source tree f w (anonymous row.version) row.ty (and_parts (not row.initial) (declares_as (anonymous row.version) row.ty f.decls) h).1
-  by (b ∷ base) h =
-      let ident = b ∷ base in
-      elim (or_cases (declares_as ident row.ty f.params) (not row.initial && declares_as ident row.ty f.decls) h) [
-        | inl param ↦ ap (λ o. option_or o (declared_type source ident tree.decls)) (param_type source tree f w ident row.ty param)
-        | inr other ↦
-            let local = (and_parts (not row.initial) (declares_as ident row.ty f.decls) other).1 in
-            ap (λ o. option_or o (declared_type source ident tree.decls)) (no_param_type source tree f w ident row.ty local) ∙ local_type source tree f w ident row.ty local
-      ]
-
--- ---- names
-
 -- the parts, the version and the type of a name that stands at a place
 pub record KnownName (source : List ℕ) (tree : FunctionText) (at : Span) (x : ℕ) (row : NameRow) : Type 0 where
   pub parts : name_parts (text_of source at) ≡ Some (row.base, decimal x)
   pub version : version_of_name source at ≡ x
   pub type : type_of_name (declarations_of source tree) at ≡ row.ty
 
-pub known_name : (source : List ℕ) (tree : FunctionText) (f : Function) → WritesWell source tree f → (at : Span) (x : ℕ) (row : NameRow) → text_of source at ≡ assigned_text f x → row_of f x ≡ Some row → KnownName source tree at x row
-known_name source tree f w at x row text found =
-    let known = declarations_of source tree in
-    let facts = name_facts f x row w.well w.within found in
-    let parts : name_parts (text_of source at) ≡ Some (row.base, decimal x) = ap name_parts text ∙ facts.parts in
-    let whole : text_of source at ≡ row.base ++ 95 ∷ decimal row.version = text ∙ facts.text ∙ ap (λ v. row.base ++ 95 ∷ decimal v) (sym facts.is_version) in
-    let typed : type_by_base known (text_of source at) row.base ≡ Some row.ty = ap (λ t. type_by_base known t row.base) whole ∙ base_type source tree f w row facts.base in
-    record {
-      parts = parts;
-      version = ap version_by_parts parts ∙ number_of_decimal x facts.small;
-      type = ap (type_by_parts known (text_of source at)) parts ∙ ap (λ o. unwrap_or o bool_type) typed;
-    }
+module _ (source : List ℕ) (tree : FunctionText) (f : Function) (w : WritesWell source tree f) where
+  param_type : (ident : List ℕ) (t : Ty) → declares_as ident t f.params ≡ true → declared_type source ident tree.params ≡ Some t
+  param_type ident t h =
+      let d = declared_as ident t f.params h in
+      let distinct = front_distinct (map ident_of f.params) (map ident_of f.decls) (idents_distinct f w.well) in
+      ap (λ i. declared_type source i tree.params) (sym d.2) ∙ type_declared source tree.params f.params w.writes.params distinct d.0 d.1 ∙ ap Some d.3
 
--- ---- operands
+  local_type : (ident : List ℕ) (t : Ty) → declares_as ident t f.decls ≡ true → declared_type source ident tree.decls ≡ Some t
+  local_type ident t h =
+      let d = declared_as ident t f.decls h in
+      let distinct = rest_distinct (map ident_of f.params) (map ident_of f.decls) (idents_distinct f w.well) in
+      ap (λ i. declared_type source i tree.decls) (sym d.2) ∙ type_declared source tree.decls f.decls w.writes.decls distinct d.0 d.1 ∙ ap Some d.3
 
-named_operand : (source : List ℕ) (tree : FunctionText) (f : Function) → WritesWell source tree f → (at : Span) (x : ℕ) (t : Ty) → text_of source at ≡ assigned_text f x → Has (operands_of f) (operands.Name x t)
-    → operands.Name (version_of_name source at) (type_of_name (declarations_of source tree) at) ≡ operands.Name x t
-named_operand source tree f w at x t text there =
-    let r = operand_row f x t (each_operand_holds f w.well (operands.Name x t) there) in
-    let k = known_name source tree f w at x r.0 text r.1 in
-    ap (λ v. operands.Name v (type_of_name (declarations_of source tree) at)) k.version ∙ ap (operands.Name x) (k.type ∙ r.2)
+  -- a local is no parameter
+  no_param_type : (ident : List ℕ) (t : Ty) → declares_as ident t f.decls ≡ true → declared_type source ident tree.params ≡ None
+  no_param_type ident t h =
+      let d = declared_as ident t f.decls h in
+      let local : Has (map ident_of f.decls) ident = subst (Has (map ident_of f.decls)) d.2 (has_map ident_of f.decls d.0 d.1) in
+      none_declared source ident tree.params f.params w.writes.params (λ there. apart (map ident_of f.params) (map ident_of f.decls) (idents_distinct f w.well) ident there local)
 
--- an operand of the function is what the text that writes it stands for
-pub operand_is : (source : List ℕ) (tree : FunctionText) (f : Function) → WritesWell source tree f → (a : OperandText) (x : Operand) → WritesOperand source f a x → Has (operands_of f) x → operand_of (declarations_of source tree) a ≡ x
-operand_is source tree f w (Name at) (operands.Name x t) written there = named_operand source tree f w at x t written.0 there
-operand_is source tree f w (Default at) (operands.Name x t) written there = named_operand source tree f w at x t written.0 there
-operand_is source tree f w (Literal literal) (operands.Const word) written there = ap (λ o. operands.Const (unwrap_or o no_word)) written
-operand_is source tree f w (Name at) (operands.Const word) written there = absurd written
-operand_is source tree f w (Default at) (operands.Const word) written there = absurd written
-operand_is source tree f w (Literal literal) (operands.Name x t) written there = absurd written
+  -- the declaration of a row's base, or of the whole name, gives its type
+  base_type : (row : NameRow) → base_holds f row ≡ true
+      → type_by_base (declarations_of source tree) (row.base ++ 95 ∷ decimal row.version) row.base ≡ Some row.ty
+  base_type row holds = by row.base holds where
+    by : (base : List ℕ) → cond (same_text base []) (not row.initial && declares_as (anonymous row.version) row.ty f.decls) (declares_as base row.ty f.params || (not row.initial && declares_as base row.ty f.decls)) ≡ true
+        → type_by_base (declarations_of source tree) (base ++ 95 ∷ decimal row.version) base ≡ Some row.ty
+    by [] h = local_type (anonymous row.version) row.ty (and_parts (not row.initial) (declares_as (anonymous row.version) row.ty f.decls) h).1
+    by (b ∷ base) h =
+        let ident = b ∷ base in
+        elim (or_cases (declares_as ident row.ty f.params) (not row.initial && declares_as ident row.ty f.decls) h) [
+          | inl param ↦ ap (λ o. option_or o (declared_type source ident tree.decls)) (param_type ident row.ty param)
+          | inr other ↦
+              let local = (and_parts (not row.initial) (declares_as ident row.ty f.decls) other).1 in
+              ap (λ o. option_or o (declared_type source ident tree.decls)) (no_param_type ident row.ty local) ∙ local_type ident row.ty local
+        ]
+
+  -- ---- names
+
+  pub known_name : (at : Span) (x : ℕ) (row : NameRow) → text_of source at ≡ assigned_text f x → row_of f x ≡ Some row → KnownName source tree at x row
+  known_name at x row text found =
+      let known = declarations_of source tree in
+      let facts = name_facts f x row w.well w.within found in
+      let parts : name_parts (text_of source at) ≡ Some (row.base, decimal x) = ap name_parts text ∙ facts.parts in
+      let whole : text_of source at ≡ row.base ++ 95 ∷ decimal row.version = text ∙ facts.text ∙ ap (λ v. row.base ++ 95 ∷ decimal v) (sym facts.is_version) in
+      let typed : type_by_base known (text_of source at) row.base ≡ Some row.ty = ap (λ t. type_by_base known t row.base) whole ∙ base_type row facts.base in
+      record {
+        parts = parts;
+        version = ap version_by_parts parts ∙ number_of_decimal x facts.small;
+        type = ap (type_by_parts known (text_of source at)) parts ∙ ap (λ o. unwrap_or o bool_type) typed;
+      }
+
+  -- ---- operands
+
+  named_operand : (at : Span) (x : ℕ) (t : Ty) → text_of source at ≡ assigned_text f x → Has (operands_of f) (operands.Name x t)
+      → operands.Name (version_of_name source at) (type_of_name (declarations_of source tree) at) ≡ operands.Name x t
+  named_operand at x t text there =
+      let r = operand_row f x t (each_operand_holds f w.well (operands.Name x t) there) in
+      let k = known_name at x r.0 text r.1 in
+      ap (λ v. operands.Name v (type_of_name (declarations_of source tree) at)) k.version ∙ ap (operands.Name x) (k.type ∙ r.2)
+
+  -- an operand of the function is what the text that writes it stands for
+  pub operand_is : (a : OperandText) (x : Operand) → WritesOperand source f a x → Has (operands_of f) x → operand_of (declarations_of source tree) a ≡ x
+  operand_is (Name at) (operands.Name x t) written there = named_operand at x t written.0 there
+  operand_is (Default at) (operands.Name x t) written there = named_operand at x t written.0 there
+  operand_is (Literal literal) (operands.Const word) written there = ap (λ o. operands.Const (unwrap_or o no_word)) written
+  operand_is a x written there = absurd written
