@@ -1,17 +1,22 @@
 -- Counting what stands at places.
-use Rattle.std.proofs.Common.{◌≡◌, ℕ, suc, ◌+◌, Bool, true, false, cond, List, ◌∷◌, add-one, refl, ap, ◌∙◌}
+use Rattle.std.proofs.Common.{◌≡◌, ℕ, suc, ◌+◌, Bool, true, false, cond, List, ◌∷◌, add-one, refl, sym, ap, ◌∙◌}
 use Rattle.std.specs.Prelude.{not, ◌&&◌, ◌||◌, ◌==◌}
 use Rattle.std.proofs.lemmas.Bool.{eqb-true, false_from_ne_true}
 use Rattle.gim_ast.specs.WellFormed.{same_text}
 use Rattle.gim_shape.specs.Blocks.{is_among}
 use Rattle.gim_shape.specs.Limits.{different}
+use Rattle.gim_shape.specs.Seen.{Takes}
 use Rattle.gim_shape.proofs.TableLemmas.{same_text_symm}
 
-pub neither_fault : (above among beyond : Bool) → above ≡ false → beyond ≡ false → false ≡ (above || (not among && beyond))
-neither_fault false true false a b = refl
-neither_fault false false false a b = refl
-neither_fault true among beyond a b = absurd cc
-neither_fault false among true a b = absurd cc
+pub not_full : (among full : Bool) → full ≡ false → false ≡ (not among && full)
+not_full true full e = refl
+not_full false full e = sym e
+
+-- the last of three tests, where the others fail
+pub last_of_three : {F : Type 0} (a b c answer : Bool) → a ≡ false → b ≡ false → Takes c F answer → Takes (a || (b || c)) F answer
+last_of_three false false c answer e f takes = takes
+last_of_three true b c answer e f takes = absurd cc
+last_of_three false true c answer e f takes = absurd cc
 
 either_way : (a b c d : Bool) → a ≡ b → c ≡ d → cond a true c ≡ (b || d)
 either_way true true c d e f = refl

@@ -10,10 +10,10 @@ use Rattle.gim_text.specs.declared.tree.BlockText.{BlockText}
 use Rattle.gim_text.specs.declared.tree.ArgText.{ArgText}
 use Rattle.gim_text.specs.declared.tree.ItemText.{ItemText}
 use Rattle.gim_text.specs.declared.tree.ItemText.TheVariants.{Phi, Stmt}
+use Rattle.gim_text.specs.Occurrences.{occurrences_of}
 use Rattle.gim_text.specs.Texts.{text_of}
 use Rattle.gim_shape.specs.Blocks.{is_among, number_of, named_at, jumps_of, numbers_of, predecessors}
 use Rattle.gim_shape.specs.Phis.{named_by_args, has_args, args_fit}
-use Rattle.gim_shape.specs.Places.{places_of}
 use Rattle.gim_shape.specs.Limits.{digits_at, versions_of, different}
 
 -- ---- shape
@@ -74,5 +74,5 @@ NumberFits (Some digits) = IsTrue (is_number_text digits) → IsSome (number_bel
 
 pub record KeepsLimits (source : List ℕ) (function : FunctionText) : Type 0 where
   pub blocks : length function.blocks ≤ 2000
-  pub names : different (versions_of source (places_of source function)) ≤ 20000
-  pub numbers : AllByRecursion (λ place. NumberFits (digits_at source place)) (places_of source function)
+  pub names : different (versions_of source (occurrences_of function)) ≤ 20000
+  pub numbers : AllByRecursion (λ occurrence. NumberFits (digits_at source occurrence)) (occurrences_of function)

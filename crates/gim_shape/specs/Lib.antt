@@ -2,7 +2,6 @@ pub mod Blocks
 pub mod Phis
 pub mod Shape
 pub mod Tables
-pub mod Places
 pub mod Limits
 pub mod Seen
 pub mod Kept

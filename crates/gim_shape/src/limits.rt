@@ -1,16 +1,18 @@
 //! The stage of limits: how many blocks and names a function has, and how large their numbers are.
 
-ghost use Rattle.std.specs.Prelude.{◌≡◌, ◌||◌, ◌==◌, ℕ, suc, List, [], ◌∷◌, IfOk};
+ghost use Rattle.std.specs.Prelude.{◌≡◌, ◌+◌, ◌||◌, ◌==◌, ℕ, suc, List, [], ◌∷◌, IfOk, option_map, length};
+ghost use Rattle.std.specs.List.{cons_option};
 ghost use Rattle.gim_text.specs.Faults.{Judges, first_fault};
-ghost use Rattle.gim_shape.specs.Limits.{span_at, is_above, blocks_among, versions_of, is_name_too_many, is_too_large, place_faults, function_limit_faults, limits_fault};
-ghost use Rattle.gim_shape.specs.declared.places.Place.{Place};
+ghost use Rattle.gim_shape.specs.Limits.{is_above, is_any_above, digits_at, version_at, version_of, blocks_among, versions_of, is_name_too_many, is_block_too_many, is_too_large, large_faults, function_limit_faults, limits_fault};
 ghost use Rattle.gim_shape.specs.Seen.{IsSeen, Takes};
 
 use crate::numbers::is_above;
-use crate::places::{Place, places_of};
 use crate::seen::Seen;
 use crate::text::named_at;
-use gim_text::{FunctionText, GimpleFault, GimpleKind, Span, name_parts, text};
+use gim_text::{
+    FunctionText, GimpleFault, GimpleKind, Occurrence, Span, block_at, name_at, name_parts,
+    occurrences, text,
+};
 use pm_ops::OutOfMemory;
 use std::alloc::Global;
 use std::collections::HashSet;
@@ -20,6 +22,52 @@ const BLOCKS: usize = 2_000;
 
 /// The most names of a function.
 const NAMES: usize = 20_000;
+
+/// The digits of the version of a name at a place.
+fn version_of(source: &[u8], name: Option<Span>) -> Option<&[u8]>
+    ensures { option_map (λ x. x.now) result ≡ version_of source.now name }
+{
+    match name {
+        Some(at) => match name_parts(text(source, at)) {
+            Some((_, version)) => Some(version),
+            None => None,
+        },
+        None => None,
+    }
+}
+
+/// The version of the name that occurs.
+fn version_at<'a>(source: &'a [u8], occurrence: &Occurrence) -> Option<&'a [u8]>
+    ensures { option_map (λ x. x.now) result ≡ version_at source.now occurrence.now }
+{
+    version_of(source, name_at(source, occurrence))
+}
+
+/// The digits of the version or of the block's number that occurs.
+fn digits_at<'a>(source: &'a [u8], occurrence: &Occurrence) -> Option<&'a [u8]>
+    ensures { option_map (λ x. x.now) result ≡ digits_at source.now occurrence.now }
+{
+    match occurrence {
+        Occurrence::Block(at) => Some(text(source, *at)),
+        Occurrence::Jump(at) => Some(named_at(source, *at)),
+        Occurrence::Parameter(_)
+        | Occurrence::Local(_)
+        | Occurrence::Assigned(_)
+        | Occurrence::Used(_)
+        | Occurrence::Default(_)
+        | Occurrence::Constant(_) => version_at(source, occurrence),
+    }
+}
+
+/// Whether the number that occurs is too large.
+fn is_number_above(source: &[u8], occurrence: &Occurrence) -> bool
+    ensures { result ≡ is_any_above (digits_at source.now occurrence.now) }
+{
+    match digits_at(source, occurrence) {
+        Some(digits) => is_above(digits),
+        None => false,
+    }
+}
 
 impl<'a> Seen<'a> {
     /// Nothing yet.
@@ -33,13 +81,10 @@ impl<'a> Seen<'a> {
         }
     }
 
-    /// Takes in a name of this version; true where that is too large or the name one too many.
-    fn take_name(&mut self, version: &'a [u8]) -> Result<bool, OutOfMemory>
-        ensures { (versions : List (List ℕ)) (blocks : ℕ) → IsSeen versions blocks self.old → IfOk result (λ large. Takes (is_above version.now || is_name_too_many versions version.now) (IsSeen (version.now ∷ versions) blocks self.new) large) }
+    /// Takes in a version; true where its name is one too many.
+    fn take_version(&mut self, version: &'a [u8]) -> Result<bool, OutOfMemory>
+        ensures { (versions : List (List ℕ)) (blocks : ℕ) → IsSeen versions blocks self.old → IfOk result (λ large. Takes (is_name_too_many versions (Some version.now)) (IsSeen (version.now ∷ versions) blocks self.new) large) }
     {
-        if is_above(version) {
-            return Ok(true);
-        }
         if !self.versions.insert(version)? {
             return Ok(false);
         }
@@ -50,49 +95,56 @@ impl<'a> Seen<'a> {
         Ok(false)
     }
 
-    /// Takes in a block of this number; true where that is too large or the block one too many.
-    fn take_block(&mut self, number: &[u8]) -> bool
-        ensures { (versions : List (List ℕ)) (blocks : ℕ) → IsSeen versions blocks self.old → Takes (is_above number.now || (blocks == 2000)) (IsSeen versions (suc blocks) self.new) result }
+    /// Takes in the version of a name, if there is one; true where the name is one too many.
+    fn take_name(&mut self, version: Option<&'a [u8]>) -> Result<bool, OutOfMemory>
+        ensures { (versions : List (List ℕ)) (blocks : ℕ) → IsSeen versions blocks self.old → IfOk result (λ large. Takes (is_name_too_many versions (option_map (λ x. x.now) version.entry)) (IsSeen (cons_option (option_map (λ x. x.now) version.entry) versions) blocks self.new) large) }
     {
-        if is_above(number) || self.blocks == BLOCKS {
+        match version {
+            Some(version) => self.take_version(version),
+            None => Ok(false),
+        }
+    }
+
+    /// Takes in a block, if there is one; true where it is one too many.
+    fn take_block(&mut self, block: Option<Span>) -> bool
+        ensures { (versions : List (List ℕ)) (blocks : List Span) → IsSeen versions (length blocks) self.old → Takes (is_block_too_many (length blocks) block) (IsSeen versions (length (cons_option block blocks)) self.new) result }
+    {
+        let Some(_at) = block else {
+            return false;
+        };
+        if self.blocks == BLOCKS {
             return true;
         }
         self.blocks += 1;
         false
     }
 
-    /// Takes in the name or the block at a place; true where something is too large there.
-    fn take(&mut self, source: &'a [u8], place: Place) -> Result<bool, OutOfMemory>
-        ensures { (before : List Place) → IsSeen (versions_of source.now before) (blocks_among before) self.old → IfOk result (λ large. Takes (is_too_large source.now before place) (IsSeen (versions_of source.now (place ∷ before)) (blocks_among (place ∷ before)) self.new) large) }
+    /// Takes in what occurs; true where something is too large there.
+    fn take(&mut self, source: &'a [u8], occurrence: &Occurrence) -> Result<bool, OutOfMemory>
+        ensures { (before : List Occurrence) → IsSeen (versions_of source.now before) (blocks_among before) self.old → IfOk result (λ large. Takes (is_too_large source.now before occurrence.now) (IsSeen (versions_of source.now (occurrence.now ∷ before)) (blocks_among (occurrence.now ∷ before)) self.new) large) }
     {
-        match place {
-            Place::Name(at) => match name_parts(text(source, at)) {
-                Some((_, version)) => self.take_name(version),
-                None => Ok(false),
-            },
-            Place::Block(at) => Ok(self.take_block(text(source, at))),
-            Place::Jump(at) => Ok(is_above(named_at(source, at))),
+        if is_number_above(source, occurrence) {
+            return Ok(true);
         }
+        if self.take_name(version_at(source, occurrence))? {
+            return Ok(true);
+        }
+        Ok(self.take_block(block_at(occurrence)))
     }
 }
 
-/// Where a place is.
-fn span_at(place: Place) -> Span
-    ensures { result ≡ span_at place }
-{
-    match place {
-        Place::Name(at) | Place::Block(at) | Place::Jump(at) => at,
-    }
-}
-
-/// Checks the places of a function.
-fn check_places(alloc: Global, source: &[u8], places: &[Place]) -> Result<(), GimpleFault>
-    ensures { Judges (first_fault (place_faults source.now [] places.now)) result }
+/// Checks what occurs in a function.
+fn check_occurrences(
+    alloc: Global,
+    source: &[u8],
+    occurrences: &[Occurrence],
+) -> Result<(), GimpleFault>
+    ensures { Judges (first_fault (large_faults source.now [] occurrences.now)) result }
 {
     let mut seen = Seen::new(alloc);
-    for place in places {
-        if seen.take(source, *place)? {
-            return Err(GimpleFault::at(GimpleKind::TooLarge, span_at(*place)));
+    for occurrence in occurrences {
+        if seen.take(source, occurrence)? {
+            return Err(GimpleFault::at(GimpleKind::TooLarge, occurrence.place()));
         }
     }
     Ok(())
@@ -102,8 +154,8 @@ fn check_places(alloc: Global, source: &[u8], places: &[Place]) -> Result<(), Gi
 fn check_function(alloc: Global, source: &[u8], function: &FunctionText) -> Result<(), GimpleFault>
     ensures { Judges (first_fault (function_limit_faults source.now function.now)) result }
 {
-    let places = places_of(alloc, source, function)?;
-    check_places(alloc, source, places.as_slice())
+    let occurrences = occurrences(alloc, function)?;
+    check_occurrences(alloc, source, occurrences.as_slice())
 }
 
 /// Checks the limits of functions: 2,000 blocks, 20,000 names, and versions and block numbers up to 999,999,999.

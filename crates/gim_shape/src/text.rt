@@ -1,10 +1,9 @@
 //! What the text of a place means.
 
 ghost use Rattle.std.specs.Prelude.{◌≡◌};
-ghost use Rattle.gim_ast.specs.Identifiers.{is_anonymous};
 ghost use Rattle.gim_shape.specs.Blocks.{named_at};
 
-use gim_text::{Span, is_number_text, text};
+use gim_text::{Span, text};
 
 /// The number of the block that a `__BBn` names.
 pub(crate) fn named_at(source: &[u8], at: Span) -> &[u8]
@@ -13,14 +12,4 @@ pub(crate) fn named_at(source: &[u8], at: Span) -> &[u8]
     let word = text(source, at);
     let (_, digits) = word.split_at(word.len().min(4));
     digits
-}
-
-/// Whether the text is `_` and a number: a name without a base.
-pub(crate) fn is_anonymous(text: &[u8]) -> bool
-    ensures { result ≡ is_anonymous text.now }
-{
-    match text {
-        [first, rest @ ..] => *first == b'_' && is_number_text(rest),
-        [] => false,
-    }
 }

@@ -2,17 +2,17 @@ use Rattle.std.proofs.Common.{◌≡◌, false, ◌∙◌, sym}
 use Rattle.std.specs.Prelude.{◌==◌}
 use Rattle.gim_shape.specs.Blocks.{is_among}
 use Rattle.gim_shape.specs.Tables.{has_text}
-use Rattle.gim_shape.specs.Limits.{is_above, different}
+use Rattle.gim_shape.specs.Limits.{different}
 use Rattle.gim_shape.proofs.DistinctLemmas.{not_true}
-use Rattle.gim_shape.proofs.LimitLemmas.{neither_fault, among_latest, one_more, other_count}
-use Rattle.gim_shape.proofs.seen.Seen.take_name.Goals as goal
+use Rattle.gim_shape.proofs.LimitLemmas.{not_full, among_latest, one_more, other_count}
+use Rattle.gim_shape.proofs.seen.Seen.take_version.Goals as goal
 
 pub returns : goal.returns
 returns c = λ versions blocks seen.
     let version = c.args.version.now in
     let set = c.args.self.now.versions in
     let new : is_among versions version ≡ false = sym (seen.known version) ∙ not_true (has_text set version) (sym c.in_ok-insert.ensures.added ∙ c.if-not-branch.false) in (
-      neither_fault (is_above version) (is_among versions version) (different versions == 20000) (sym c.is_above.ensures ∙ c.if-is_above.false)
+      not_full (is_among versions version) (different versions == 20000)
           (other_count c.args.self.now.names (different versions) 20000 seen.names_counted c.if-self-eq-NAMES.false),
       λ same. record {
         known = λ q. among_latest versions version q (has_text set q) _ (c.in_ok-insert.ensures.updates.0 (record { ref_ptr = (0, 0); now = q })) (seen.known q);
