@@ -17,6 +17,7 @@ use Rattle.gim_text.specs.Occurrences.{occurrences_of, name_at}
 use Rattle.gim_text.specs.Texts.{text_of, name_parts}
 use Rattle.gim_names.specs.Parts.{version_in, turned, anonymous_parts, declared_text, block_number, assigned_version, plain_version, default_version, version_base, base_default}
 use Rattle.gim_names.specs.Rules.{stands, is_declared_again, is_assigned_again, has_other_base, has_other_mark, has_other_default, is_repeated, is_marked_otherwise, is_contradicted, is_redefined}
+use Rattle.gim_making.specs.Names.{is_default}
 use Rattle.gim_making.proofs.Membership.{Has, any_from_has, has_flat}
 use Rattle.gim_making.proofs.NameRowLemmas.{one_of_version}
 use Rattle.gim_making.proofs.PartLemmas.{some_is, text_itself, bare_is_anonymous}
@@ -26,7 +27,7 @@ use Rattle.gim_round_trip.proofs.tree.OccurringTexts.{declared_said, numbers_sai
 use Rattle.gim_round_trip.proofs.tree.Rows.{of_names, version_small, name_facts}
 use Rattle.gim_round_trip.proofs.tree.SmallNumbers.{AreSmallNumbers, small_decimal, distinct_decimals, numbers_small}
 use Rattle.gim_round_trip.proofs.tree.WellFormedParts.{of_blocks, assigned_row}
-use Rattle.gim_round_trip.proofs.tree.WhatOccurs.{IsNameOf, has_mark, occurrence_is, name_of}
+use Rattle.gim_round_trip.proofs.tree.WhatOccurs.{IsNameOf, occurrence_is, name_of}
 use Rattle.gim_round_trip.proofs.tree.Writes.{WritesWell}
 
 -- ---- default definitions
@@ -69,16 +70,16 @@ pair_place source (Used at) p e = (at, refl, e)
 pair_place source (Default at) p e = (at, refl, e)
 pair_place source o p e = absurd cc
 
-plain_place : (source : List ℕ) (o : Occurrence) (x : List ℕ) → plain_version source o ≡ Some x → (at : Span) × (name_at source o ≡ Some at) × (version_in (name_parts (text_of source at)) ≡ Some x) × (has_mark o ≡ false)
+plain_place : (source : List ℕ) (o : Occurrence) (x : List ℕ) → plain_version source o ≡ Some x → (at : Span) × (name_at source o ≡ Some at) × (version_in (name_parts (text_of source at)) ≡ Some x) × (is_default o ≡ false)
 plain_place source (Assigned at) x e = (at, refl, e, refl)
 plain_place source (Used at) x e = (at, refl, e, refl)
 plain_place source o x e = absurd cc
 
-marked_place : (source : List ℕ) (o : Occurrence) (x : List ℕ) → default_version source o ≡ Some x → (at : Span) × (name_at source o ≡ Some at) × (version_in (name_parts (text_of source at)) ≡ Some x) × (has_mark o ≡ true)
+marked_place : (source : List ℕ) (o : Occurrence) (x : List ℕ) → default_version source o ≡ Some x → (at : Span) × (name_at source o ≡ Some at) × (version_in (name_parts (text_of source at)) ≡ Some x) × (is_default o ≡ true)
 marked_place source (Default at) x e = (at, refl, e, refl)
 marked_place source o x e = absurd cc
 
-default_place : (source : List ℕ) (o : Occurrence) (p : List ℕ × List ℕ) → base_default source o ≡ Some p → (at : Span) × (name_at source o ≡ Some at) × (name_parts (text_of source at) ≡ Some p) × (has_mark o ≡ true)
+default_place : (source : List ℕ) (o : Occurrence) (p : List ℕ × List ℕ) → base_default source o ≡ Some p → (at : Span) × (name_at source o ≡ Some at) × (name_parts (text_of source at) ≡ Some p) × (is_default o ≡ true)
 default_place source (Default at) p e = (at, refl, e, refl)
 default_place source o p e = absurd cc
 

@@ -18,11 +18,12 @@ use Rattle.gim_text.specs.declared.tree.BlockText.{BlockText}
 use Rattle.gim_making.proofs.Membership.{Has}
 use Rattle.gim_statements.specs.Grammar.{◌▸◌, SpellsItem, SpellsEndIfAny, SpellsNote, SpellsBlock}
 use Rattle.gim_round_trip.specs.ReadBack.{IsWithinLimits}
-use Rattle.gim_round_trip.proofs.tree.Rows.{each_block_fits, number_is_small, target_is_small}
+use Rattle.gim_round_trip.proofs.tree.SmallNumbers.{number_small, targets_small}
+use Rattle.gim_round_trip.proofs.tree.WellFormedParts.{end_operand, each_operand_holds, end_fits_here}
 use Rattle.gim_round_trip.proofs.text.Prints.{any_end, Prints, joined, seen, blanks_before}
 use Rattle.gim_round_trip.proofs.text.Tokens.{keyword_prints, number_prints, a_mark_prints}
 use Rattle.gim_round_trip.proofs.text.Sequences.{Quiet, lead, told, many}
-use Rattle.gim_round_trip.proofs.text.Lines.{phi_prints, stmt_prints, end_operands_hold}
+use Rattle.gim_round_trip.proofs.text.Lines.{phi_prints, stmt_prints}
 use Rattle.gim_round_trip.proofs.text.Ends.{end_prints}
 use Rattle.gim_round_trip.proofs.tree.Writes.{WritesPhi, WritesStmt, WritesEnd, WritesBlock}
 
@@ -49,7 +50,7 @@ lines_print : (source : List ℕ) (f : Function) (block : Block) → IsWellForme
 lines_print source f block well limits there =
     let phis = many source any_end SpellsItem (WritesPhi source f) (phi_line f) block.phis (λ phi here. phi_prints source f block phi well limits there here) (λ phi rest ends. tt) in
     let stmts = many source any_end SpellsItem (WritesStmt source f) (stmt_line f) block.stmts (λ stmt here. stmt_prints source f block stmt well limits there here) (λ stmt rest ends. tt) in
-    let end = end_prints source f block.end well limits (end_operands_hold f block well there) (target_is_small f well limits block there) (and_parts _ _ (each_block_fits f well block there)).1 in
+    let end = end_prints source f block.end well limits (λ a stands. each_operand_holds f well a (end_operand f block there a stands)) (targets_small f limits well block there) (end_fits_here f block there well) in
     seen (joined phis (λ rest. tt) (joined stmts (λ rest. tt) end)) (λ x. (x.0 ++ x.1.0, x.1.1)) (λ x w is h. items_then (SpellsEndIfAny x.1.1) x.0 x.1.0 w h)
     (λ x is. (x.0, x.1.0, refl, is.0, is.1.0, is.1.1))
 
@@ -64,7 +65,7 @@ pub block_prints : (source : List ℕ) (f : Function) (block : Block) → IsWell
     → Prints source any_end SpellsBlock (λ (tree : BlockText). WritesBlock source f tree block) (block_text f block)
 unfolding block_text
 block_prints source f block well limits there =
-    let small = number_is_small f limits block there in
+    let small = number_small f limits block there in
     let number : block.number < 2 ^ 64 = omega (arith, small) in
     let lines = blanks_before (10 ∷ []) refl (lines_print source f block well limits there) in
     let note : Quiet source any_end SpellsNote (codes ")") = seen (a_mark_prints source marks.Close refl) (λ u. u) (λ u w is h. inl h) (λ u is. is) in

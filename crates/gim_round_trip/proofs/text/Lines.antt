@@ -26,7 +26,9 @@ use Rattle.gim_text.specs.declared.tree.ItemText.TheVariants as items
 use Rattle.gim_making.proofs.Membership.{Has, has_left, has_right, has_map, has_flat, all_has, any_has}
 use Rattle.gim_statements.specs.Grammar.{SpellsArg, SpellsArgs, SpellsItem}
 use Rattle.gim_round_trip.specs.ReadBack.{IsWithinLimits}
-use Rattle.gim_round_trip.proofs.tree.Rows.{name_facts, each_operand_holds, each_block_fits, phi_row, stmt_row, phi_block_is_small}
+use Rattle.gim_round_trip.proofs.tree.Rows.{name_facts}
+use Rattle.gim_round_trip.proofs.tree.SmallNumbers.{phi_blocks_small}
+use Rattle.gim_round_trip.proofs.tree.WellFormedParts.{phi_operand, stmt_operand, each_operand_holds, phi_row, phi_rules, stmt_row}
 use Rattle.gim_round_trip.proofs.text.Prints.{word_end, any_end, Prints, joined, seen, blanks_before, blanks_after}
 use Rattle.gim_round_trip.proofs.text.Tokens.{block_word_prints, a_mark_prints, a_keyword_prints}
 use Rattle.gim_round_trip.proofs.text.Operands.{assigned_prints, operand_prints}
@@ -35,28 +37,6 @@ use Rattle.gim_round_trip.proofs.text.RightSides.{OperandsHold, right_prints}
 use Rattle.gim_round_trip.proofs.tree.Writes.{WritesArg, WritesPhi, WritesStmt}
 
 -- ---- what is known of the parts of a block
-
-pub phi_operand_holds : (f : Function) (block : Block) (phi : Phi) (arg : ℕ × Operand) → IsWellFormed f → Has f.blocks block → Has block.phis phi → Has phi.args arg → operand_holds f arg.1 ≡ true
-unfolding operands_of
-phi_operand_holds f block phi arg well there here stands =
-    let among = has_flat operands_of_phi block.phis phi arg.1 here (has_map (λ (a : ℕ × Operand). a.1) phi.args arg stands) in
-    let inner = has_left (flat_map operands_of_phi block.phis) (flat_map operands_of_stmt block.stmts) arg.1 among in
-    let whole = has_left (flat_map operands_of_phi block.phis ++ flat_map operands_of_stmt block.stmts) (operands_of_end block.end) arg.1 inner in
-    each_operand_holds f well arg.1 (has_flat operands_of_block f.blocks block arg.1 there whole)
-
-pub stmt_operands_hold : (f : Function) (block : Block) (stmt : Stmt) → IsWellFormed f → Has f.blocks block → Has block.stmts stmt → OperandsHold f (operands_of_stmt stmt)
-unfolding operands_of
-stmt_operands_hold f block stmt well there here a stands =
-    let among = has_flat operands_of_stmt block.stmts stmt a here stands in
-    let inner = has_right (flat_map operands_of_phi block.phis) (flat_map operands_of_stmt block.stmts) a among in
-    let whole = has_left (flat_map operands_of_phi block.phis ++ flat_map operands_of_stmt block.stmts) (operands_of_end block.end) a inner in
-    each_operand_holds f well a (has_flat operands_of_block f.blocks block a there whole)
-
-pub end_operands_hold : (f : Function) (block : Block) → IsWellFormed f → Has f.blocks block → OperandsHold f (operands_of_end block.end)
-unfolding operands_of
-end_operands_hold f block well there a stands =
-    let whole = has_right (flat_map operands_of_phi block.phis ++ flat_map operands_of_stmt block.stmts) (operands_of_end block.end) a stands in
-    each_operand_holds f well a (has_flat operands_of_block f.blocks block a there whole)
 
 -- what is declared with a type has one of the eleven
 declared_type : (ident : List ℕ) (t : Ty) (decls : List Decl) → ((decl : Decl) → Has decls decl → is_type_of decl.ty ≡ true) → declares_as ident t decls ≡ true → is_type_of t ≡ true
@@ -97,10 +77,10 @@ arg_prints source f arg well limits small holds =
     let whole = joined (block_word_prints source arg.0 number) (λ rest. refl) operand in
     told (arg_whole (decimal arg.0) (operand_text f arg.1)) (seen whole (λ x. record { from = x.0; operand = x.1 }) (λ x w is h. h) (λ x is. is))
 
-args_print : (source : List ℕ) (f : Function) (args : List (ℕ × Operand)) → not (is_empty args) ≡ true
+args_print : (source : List ℕ) (f : Function) (args : List (ℕ × Operand)) → is_empty args ≡ false
     → ((arg : ℕ × Operand) → Has args arg → Prints source word_end SpellsArg (λ (tree : ArgText). WritesArg source f tree arg) (phi_argument_text f arg))
     → Prints source word_end SpellsArgs (λ (trees : List ArgText). AllZip (WritesArg source f) trees args) (listed (phi_argument_text f) args)
-args_print source f [] some each = absurd (false≢true some)
+args_print source f [] some each = absurd (false≢true (sym some))
 args_print source f (arg ∷ args) some each = seen (comma_list source SpellsArg (WritesArg source f) (phi_argument_text f) arg args each) (λ trees. trees.0 ∷ trees.1) (λ trees w is h. h) (λ trees is. is)
 
 phi_whole : (name args : List ℕ) → (codes "  " ++ (name ++ (codes " = __PHI (" ++ (args ++ codes ");")))) ++ 10 ∷ [] ≡ line (codes "  " ++ name ++ codes " = __PHI (" ++ args ++ codes ");")
@@ -110,12 +90,10 @@ pub phi_prints : (source : List ℕ) (f : Function) (block : Block) (phi : Phi) 
     → Prints source any_end SpellsItem (λ (tree : ItemText). WritesPhi source f tree phi) (phi_line f phi)
 unfolding phi_line
 phi_prints source f block phi well limits there here =
-    let fits = each_block_fits f well block there in
-    let row = phi_row f phi (all_has (phi_fits f) block.phis (and_parts _ _ (and_parts _ _ fits).0).0 phi here) in
-    let holds = all_has (phi_holds f block.number) block.phis (all_has (λ (b : Block). list_all (phi_holds f b.number) b.phis) f.blocks (and_parts _ _ well.blocks).1 block there) phi here in
+    let row = phi_row f block there well phi here in
     let each = λ (arg : ℕ × Operand) (stands : Has phi.args arg).
-    arg_prints source f arg well limits (phi_block_is_small f well limits block there phi here arg stands) (phi_operand_holds f block phi arg well there here stands) in
-    let args = args_print source f phi.args (and_parts _ _ holds).1 each in
+    arg_prints source f arg well limits (phi_blocks_small f limits well block there phi here arg.0 (has_map (λ (a : ℕ × Operand). a.0) phi.args arg stands)) (each_operand_holds f well arg.1 (phi_operand f block there phi here arg stands)) in
+    let args = args_print source f phi.args (phi_rules f block there well phi here).some each in
     let ended = trail args (λ rest. refl) (lead (a_mark_prints source marks.Close refl) (λ rest. tt) (quiet_semicolon source)) in
     let opened = lead (a_keyword_prints source keywords.Phi) (λ rest. refl) (blanks_before (codes " ") refl (lead (a_mark_prints source marks.Open refl) (λ rest. tt) ended)) in
     let assigned = lead (blanks_before (codes " ") refl (quiet_assign source)) (λ rest. refl) (blanks_before (codes " ") refl opened) in
@@ -132,13 +110,12 @@ pub stmt_prints : (source : List ℕ) (f : Function) (block : Block) (stmt : Stm
     → Prints source any_end SpellsItem (λ (tree : ItemText). WritesStmt source f tree stmt) (stmt_line f stmt)
 unfolding stmt_line
 stmt_prints source f block stmt well limits there here =
-    let fits = each_block_fits f well block there in
-    let row = stmt_row f stmt (all_has (stmt_fits f) block.stmts (and_parts _ _ (and_parts _ _ fits).0).1 stmt here) in
+    let row = stmt_row f block there well stmt here in
     let facts = name_facts f stmt.name row.0 well limits row.1 in
     let t = type_of_name f stmt.name in
     let is : is_type_of t ≡ true = subst (λ u. is_type_of u ≡ true) (sym facts.type) (row_type f row.0 well facts.base) in
     let right_fits : rhs_fits t stmt.rhs ≡ true = subst (λ u. rhs_fits u stmt.rhs ≡ true) (sym facts.type) row.2 in
-    let right = right_prints source f t stmt.rhs well limits is (stmt_operands_hold f block stmt well there here) right_fits in
+    let right = right_prints source f t stmt.rhs well limits is (λ a stands. each_operand_holds f well a (stmt_operand f block there stmt here a stands)) right_fits in
     let assigned = lead (blanks_before (codes " ") refl (quiet_assign source)) (λ rest. refl) (blanks_before (codes " ") refl (trail right (λ rest. refl) (quiet_semicolon source))) in
     let whole = joined (assigned_prints source f stmt.name row.0 well limits row.1) (λ rest. refl) assigned in
     let item = seen whole (λ x. items.Stmt x.0 x.1) (λ x w is h. h) (λ x is. is) in

@@ -28,7 +28,7 @@ use Rattle.gim_syntax.specs.Grammar.{SpellsTyped}
 use Rattle.gim_round_trip.specs.ReadBack.{IsWithinLimits}
 use Rattle.gim_round_trip.proofs.text.Prints.{Prints, any_end, word_end, joined, seen, sooner, blanks_after}
 use Rattle.gim_round_trip.proofs.tree.Writes.{WritesOperand, WritesDecl}
-use Rattle.gim_round_trip.proofs.tree.Rows.{operand_row}
+use Rattle.gim_round_trip.proofs.tree.WellFormedParts.{operand_row}
 use Rattle.gim_round_trip.proofs.text.Tokens.{identifier_prints, a_keyword_prints, a_mark_prints}
 use Rattle.gim_round_trip.proofs.text.TypeTexts.{type_text_prints}
 use Rattle.gim_round_trip.proofs.tree.Identifiers.{name_is_identifier}

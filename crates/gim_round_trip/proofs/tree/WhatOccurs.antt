@@ -23,6 +23,7 @@ use Rattle.gim_text.specs.declared.tree.FunctionText.{FunctionText}
 use Rattle.gim_text.specs.Literals.{literal_word}
 use Rattle.gim_text.specs.Occurrences.{occurrences_of, name_at}
 use Rattle.gim_text.specs.Texts.{text_of, name_parts}
+use Rattle.gim_making.specs.Names.{is_default}
 use Rattle.gim_making.proofs.Membership.{Has, has_map, from_map, any_has, any_from_has}
 use Rattle.gim_making.proofs.PartLemmas.{same_text_is}
 use Rattle.gim_round_trip.proofs.tree.FunctionParts.{Part, parameter, local, head, jump, assigns, reads, parts_of, PartIs, part_is, local_there, name_there, operand_there}
@@ -53,29 +54,24 @@ OccurrenceIs source f (Used at) = (row : NameRow) × IsNameAt source f at row ×
 OccurrenceIs source f (Default at) = (row : NameRow) × IsNameAt source f at row × (row.initial ≡ true)
 OccurrenceIs source f (Constant literal) = (word : Word) × (literal_word source literal ≡ Some word)
 
--- whether a `(D)` stands behind
-abbrev pub has_mark : Occurrence → Bool
-has_mark (Default at) = true
-has_mark occurrence = false
-
 -- the occurrence is a name at the place, that of the row, with a `(D)` behind it if the row is a default definition
 pub record IsNameOf (source : List ℕ) (f : Function) (occurrence : Occurrence) (at : Span) (row : NameRow) : Type 0 where
   pub place : name_at source occurrence ≡ Some at
   pub name : IsNameAt source f at row
-  pub mark : has_mark occurrence ≡ row.initial
+  pub mark : is_default occurrence ≡ row.initial
 
 -- ---- by what an occurrence says
 
-assigned_said : (source text : List ℕ) (o : Occurrence) → said source o ≡ an_assigned text → (at : Span) × (name_at source o ≡ Some at) × (text_of source at ≡ text) × (has_mark o ≡ false)
+assigned_said : (source text : List ℕ) (o : Occurrence) → said source o ≡ an_assigned text → (at : Span) × (name_at source o ≡ Some at) × (text_of source at ≡ text) × (is_default o ≡ false)
 assigned_said source text (Assigned at) e = (at, refl, cc, refl)
 assigned_said source text o e = absurd cc
 
-operand_said : (source text : List ℕ) (mark : Bool) (o : Occurrence) → said source o ≡ an_operand (a_name text mark) → (at : Span) × (name_at source o ≡ Some at) × (text_of source at ≡ text) × (has_mark o ≡ mark)
+operand_said : (source text : List ℕ) (mark : Bool) (o : Occurrence) → said source o ≡ an_operand (a_name text mark) → (at : Span) × (name_at source o ≡ Some at) × (text_of source at ≡ text) × (is_default o ≡ mark)
 operand_said source text mark (Used at) e = (at, refl, cc, cc)
 operand_said source text mark (Default at) e = (at, refl, cc, cc)
 operand_said source text mark o e = absurd cc
 
-local_said : (source text : List ℕ) (o : Occurrence) → said source o ≡ a_local text → is_anonymous text ≡ true → (at : Span) × (name_at source o ≡ Some at) × (text_of source at ≡ text) × (has_mark o ≡ false)
+local_said : (source text : List ℕ) (o : Occurrence) → said source o ≡ a_local text → is_anonymous text ≡ true → (at : Span) × (name_at source o ≡ Some at) × (text_of source at ≡ text) × (is_default o ≡ false)
 local_said source text (Local at) e bare = let same : text_of source at ≡ text = cc in (at, ap (λ b. cond b (Some at) None) (ap is_anonymous same ∙ bare), same, refl)
 local_said source text o e bare = absurd cc
 
@@ -154,7 +150,7 @@ module _ (source : List ℕ) (tree : FunctionText) (f : Function) (w : WritesWel
   abbrev pub Occurs : NameRow → Type 0
   Occurs row = (o : Occurrence) × Has (occurrences_of tree) o × (at : Span) × IsNameOf source f o at row
 
-  occurs : (row : NameRow) (o : Occurrence) → Has f.names row → Has (occurrences_of tree) o → (at : Span) × (name_at source o ≡ Some at) × (text_of source at ≡ assigned_text f row.version) × (has_mark o ≡ row.initial) → Occurs row
+  occurs : (row : NameRow) (o : Occurrence) → Has f.names row → Has (occurrences_of tree) o → (at : Span) × (name_at source o ≡ Some at) × (text_of source at ≡ assigned_text f row.version) × (is_default o ≡ row.initial) → Occurs row
   occurs row o named there found = (o, there, found.0, record { place = found.1; name = name_here found.0 row.version row (row_found f w.well row named) found.2; mark = found.3 })
 
   assigned_occurs : (row : NameRow) → Has f.names row → row.initial ≡ false → is_assigned f row.version ≡ true → Occurs row
