@@ -47,24 +47,37 @@ occurrence_of_operand (operands.Literal literal) = Constant literal
 abbrev pub occurrences_of_argument : ArgText → List Occurrence
 occurrences_of_argument arg = Jump arg.from ∷ occurrence_of_operand arg.operand ∷ []
 
+abbrev pub operands_in_right : RightForm → List OperandText
+operands_in_right (Copy a) = a ∷ []
+operands_in_right (Unary code a) = a ∷ []
+operands_in_right (Cast ty a) = a ∷ []
+operands_in_right (Binary code a b) = a ∷ b ∷ []
+operands_in_right (Choice a b c) = a ∷ b ∷ c ∷ []
+
 abbrev pub occurrences_of_right : RightForm → List Occurrence
-occurrences_of_right (Copy a) = occurrence_of_operand a ∷ []
-occurrences_of_right (Unary code a) = occurrence_of_operand a ∷ []
-occurrences_of_right (Cast ty a) = occurrence_of_operand a ∷ []
-occurrences_of_right (Binary code a b) = occurrence_of_operand a ∷ occurrence_of_operand b ∷ []
-occurrences_of_right (Choice a b c) = occurrence_of_operand a ∷ occurrence_of_operand b ∷ occurrence_of_operand c ∷ []
+occurrences_of_right form = map occurrence_of_operand (operands_in_right form)
 
 -- the name that an item assigns, then its arguments or operands
 abbrev pub occurrences_of_item : ItemText → List Occurrence
 occurrences_of_item (Phi name args) = Assigned name ∷ flat_map occurrences_of_argument args
 occurrences_of_item (Stmt name right) = Assigned name ∷ occurrences_of_right right.form
 
+abbrev pub operands_in_end : Option EndText → List OperandText
+operands_in_end None = []
+operands_in_end (Some (Goto to)) = []
+operands_in_end (Some (If code a b yes_to no_to)) = a ∷ b ∷ []
+operands_in_end (Some (Return a)) = a ∷ []
+
+-- the `__BBn` to which an end jumps
+abbrev pub targets_in_end : Option EndText → List Span
+targets_in_end None = []
+targets_in_end (Some (Goto to)) = to ∷ []
+targets_in_end (Some (If code a b yes_to no_to)) = yes_to ∷ no_to ∷ []
+targets_in_end (Some (Return a)) = []
+
 -- the operands of an end, then its targets
 abbrev pub occurrences_of_end : Option EndText → List Occurrence
-occurrences_of_end None = []
-occurrences_of_end (Some (Goto to)) = Jump to ∷ []
-occurrences_of_end (Some (If code a b yes_to no_to)) = occurrence_of_operand a ∷ occurrence_of_operand b ∷ Jump yes_to ∷ Jump no_to ∷ []
-occurrences_of_end (Some (Return a)) = occurrence_of_operand a ∷ []
+occurrences_of_end end = map occurrence_of_operand (operands_in_end end) ++ map Jump (targets_in_end end)
 
 abbrev pub occurrences_of_block : BlockText → List Occurrence
 occurrences_of_block block = (Block block.number ∷ flat_map occurrences_of_item block.items) ++ occurrences_of_end block.end
