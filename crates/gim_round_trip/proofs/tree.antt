@@ -1,4 +1,5 @@
 -- What a tree that writes a function says of its parts, and that it stands for this function.
+pub mod DistinctTexts
 pub mod FunctionParts
 pub mod Identifiers
 pub mod Kept

@@ -22,6 +22,7 @@ use Rattle.gim_making.proofs.Membership.{Has, any_from_has, has_flat}
 use Rattle.gim_making.proofs.NameRowLemmas.{one_of_version}
 use Rattle.gim_making.proofs.PartLemmas.{some_is, text_itself, bare_is_anonymous}
 use Rattle.gim_round_trip.proofs.rules.KeptRules.{NeverBy, never_either, never_twice, never_both, never_differs}
+use Rattle.gim_round_trip.proofs.tree.DistinctTexts.{one_of}
 use Rattle.gim_round_trip.proofs.tree.Kept.{from_kept}
 use Rattle.gim_round_trip.proofs.tree.OccurringTexts.{declared_said, numbers_said, versions_said}
 use Rattle.gim_round_trip.proofs.tree.Rows.{of_names, version_small, name_facts}
@@ -32,27 +33,10 @@ use Rattle.gim_round_trip.proofs.tree.Writes.{WritesWell}
 
 -- ---- default definitions
 
-bases_by : (initial : Bool) (base : List ℕ) (later : List (List ℕ)) → all_distinct same_text (cond initial (base ∷ []) [] ++ later) ≡ true → (initial ≡ true → list_any (same_text base) later ≡ false) × (all_distinct same_text later ≡ true)
-bases_by true base later distinct = let d = and_parts (not (list_any (same_text base) later)) (all_distinct same_text later) distinct in (λ e. not-true (list_any (same_text base) later) d.0, d.1)
-bases_by false base later distinct = (λ e. absurd (false≢true e), distinct)
-
-base_stands : (rows : List NameRow) (row : NameRow) → Has rows row → row.initial ≡ true → Has (initial_bases rows) row.base
-base_stands rows row there initial = has_flat (λ (r : NameRow). cond r.initial (r.base ∷ []) []) rows row row.base there (subst (λ i. Has (cond i (row.base ∷ []) []) row.base) (sym initial) (inl refl))
-
--- the first row, where it is a default definition, has another base than a later one
-bases_apart : (r : NameRow) (rows : List NameRow) (b : NameRow) → (r.initial ≡ true → list_any (same_text r.base) (initial_bases rows) ≡ false) → r.initial ≡ true → Has rows b → b.initial ≡ true → r.base ≡ b.base → ⊥
-bases_apart r rows b new first there second bases =
-    false≢true (sym (new first) ∙ any_from_has (same_text r.base) (initial_bases rows) b.base (base_stands rows b there second) (ap (same_text r.base) (sym bases) ∙ text_itself r.base))
-
 -- no two default definitions have one base
 one_default : (rows : List NameRow) → all_distinct same_text (initial_bases rows) ≡ true → (a b : NameRow) → Has rows a → Has rows b → a.initial ≡ true → b.initial ≡ true → a.base ≡ b.base → a ≡ b
-one_default [] distinct a b p q first second bases = absurd p
-one_default (r ∷ rows) distinct a b (inl p) (inl q) first second bases = sym p ∙ q
-one_default (r ∷ rows) distinct a b (inl p) (inr q) first second bases =
-    absurd (bases_apart r rows b (bases_by r.initial r.base (initial_bases rows) distinct).0 (ap (λ (x : NameRow). x.initial) p ∙ first) q second (ap (λ (x : NameRow). x.base) p ∙ bases))
-one_default (r ∷ rows) distinct a b (inr p) (inl q) first second bases =
-    absurd (bases_apart r rows a (bases_by r.initial r.base (initial_bases rows) distinct).0 (ap (λ (x : NameRow). x.initial) q ∙ second) p first (ap (λ (x : NameRow). x.base) q ∙ sym bases))
-one_default (r ∷ rows) distinct a b (inr p) (inr q) first second bases = one_default rows (bases_by r.initial r.base (initial_bases rows) distinct).1 a b p q first second bases
+one_default rows distinct a b p q first second bases = one_of (λ (row : NameRow). cond row.initial (row.base ∷ []) []) rows distinct a b b.base p q
+    (subst (λ i. Has (cond i (a.base ∷ []) []) b.base) (sym first) (inl bases)) (subst (λ i. Has (cond i (b.base ∷ []) []) b.base) (sym second) (inl refl))
 
 -- ---- what an occurrence says of versions, by the name that stands there
 

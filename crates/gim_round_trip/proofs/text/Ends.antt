@@ -20,7 +20,8 @@ use Rattle.gim_making.proofs.Membership.{Has}
 use Rattle.gim_statements.specs.Grammar.{SpellsJump, SpellsJumpEnd, SpellsEndIfAny}
 use Rattle.gim_round_trip.specs.ReadBack.{IsWithinLimits}
 use Rattle.gim_round_trip.proofs.text.Prints.{any_end, blank_end, Prints, joined, seen, blanks_before, blanks_after}
-use Rattle.gim_round_trip.proofs.text.Tokens.{block_word_prints, comparison_prints, a_mark_prints, a_keyword_prints}
+use Rattle.gim_round_trip.proofs.text.OperationSigns.{comparison_prints}
+use Rattle.gim_round_trip.proofs.text.Tokens.{block_word_prints, a_mark_prints, a_keyword_prints}
 use Rattle.gim_round_trip.proofs.text.Operands.{operand_prints}
 use Rattle.gim_round_trip.proofs.text.Sequences.{Quiet, lead, trail, told, quiet_semicolon}
 use Rattle.gim_round_trip.proofs.text.RightSides.{OperandsHold, IsRead}

@@ -17,39 +17,20 @@ use Rattle.gim_round_trip.proofs.text.Words.{begins_none}
 -- ---- bytes that begin marks alone
 
 -- it begins no word, number or quoted text and no separator
-abbrev is_mark_byte : ℕ → Bool
-is_mark_byte a = not (is_letter a) && not (is_digit a) && not (a == 34) && not (is_space a) && not (47 == a) && not (59 == a)
-
-record BeginsMark (a : ℕ) : Type 0 where
-  no_letter : is_letter a ≡ false
-  no_digit : is_digit a ≡ false
-  no_quote : (a == 34) ≡ false
-  no_space : is_space a ≡ false
-  no_slash : (47 == a) ≡ false
-  no_semicolon : (59 == a) ≡ false
-
-begins_mark : (a : ℕ) → is_mark_byte a ≡ true → BeginsMark a
-begins_mark a h =
-    let p = and_parts _ (not (59 == a)) h in
-    let q = and_parts _ (not (47 == a)) p.0 in
-    let r = and_parts _ (not (is_space a)) q.0 in
-    let s = and_parts _ (not (a == 34)) r.0 in
-    let t = and_parts (not (is_letter a)) (not (is_digit a)) s.0 in
-    record {
-      no_letter = not-true (is_letter a) t.0;
-      no_digit = not-true (is_digit a) t.1;
-      no_quote = not-true (a == 34) s.1;
-      no_space = not-true (is_space a) r.1;
-      no_slash = not-true (47 == a) q.1;
-      no_semicolon = not-true (59 == a) p.1;
-    }
+abbrev BeginsMark : ℕ → Type 0
+BeginsMark a = is_letter a ∷ is_digit a ∷ (a == 34) ∷ is_space a ∷ (47 == a) ∷ (59 == a) ∷ [] ≡ false ∷ false ∷ false ∷ false ∷ false ∷ false ∷ []
 
 mark_apart : (a : ℕ) → BeginsMark a → (l : Bool) (text : List ℕ) → separator_length l (a ∷ text) ≡ None
-mark_apart a h l text = begins_none l a text h.no_space h.no_slash h.no_semicolon
+mark_apart a h l text = begins_none l a text (cc) (cc) (cc)
 
 mark_begins : (at a : ℕ) (text : List ℕ) → BeginsMark a → token_of_text at (a ∷ text) ≡ mark_at at (a ∷ text)
 unfolding token_of_text
-mark_begins at a text h = rw (h.no_letter, h.no_digit, h.no_quote, h.no_slash) refl
+mark_begins at a text h =
+    let letter : is_letter a ≡ false = cc in
+    let digit : is_digit a ≡ false = cc in
+    let quote : (a == 34) ≡ false = cc in
+    let slash : (47 == a) ≡ false = cc in
+    rw (letter, digit, quote, slash) refl
 
 short_there : (at a b : ℕ) (text : List ℕ) (m : Mark) → short_mark a ≡ Some m → long_mark a b ≡ None → mark_at at (a ∷ b ∷ text) ≡ Some (tokens.Mark m (place at 1))
 unfolding mark_at
@@ -70,16 +51,16 @@ pub record IsMarkText (bs : List ℕ) (m : Mark) : Type 0 where
   pub stands : (at : ℕ) (rest : List ℕ) → token_of_text at (bs ++ rest) ≡ Some (tokens.Mark m (place at (length bs)))
 
 -- one byte that begins no mark of two
-pub one_byte : (a : ℕ) (m : Mark) → is_mark_byte a ≡ true → short_mark a ≡ Some m → ((b : ℕ) → long_mark a b ≡ None) → IsMarkText (a ∷ []) m
-one_byte a m begins short long = record { apart = mark_apart a (begins_mark a begins); stands = there } where
+pub one_byte : (a : ℕ) (m : Mark) → BeginsMark a → short_mark a ≡ Some m → ((b : ℕ) → long_mark a b ≡ None) → IsMarkText (a ∷ []) m
+one_byte a m begins short long = record { apart = mark_apart a begins; stands = there } where
   there : (at : ℕ) (rest : List ℕ) → token_of_text at (a ∷ rest) ≡ Some (tokens.Mark m (place at 1))
-  there at [] = mark_begins at a [] (begins_mark a begins) ∙ short_last at a m short
-  there at (b ∷ rest) = mark_begins at a (b ∷ rest) (begins_mark a begins) ∙ short_there at a b rest m short (long b)
+  there at [] = mark_begins at a [] begins ∙ short_last at a m short
+  there at (b ∷ rest) = mark_begins at a (b ∷ rest) begins ∙ short_there at a b rest m short (long b)
 
-pub two_bytes : (a b : ℕ) (m : Mark) → is_mark_byte a ≡ true → long_mark a b ≡ Some m → IsMarkText (a ∷ b ∷ []) m
+pub two_bytes : (a b : ℕ) (m : Mark) → BeginsMark a → long_mark a b ≡ Some m → IsMarkText (a ∷ b ∷ []) m
 two_bytes a b m begins long = record {
-  apart = λ l rest. mark_apart a (begins_mark a begins) l (b ∷ rest);
-  stands = λ at rest. mark_begins at a (b ∷ rest) (begins_mark a begins) ∙ long_there at a b rest m long;
+  apart = λ l rest. mark_apart a begins l (b ∷ rest);
+  stands = λ at rest. mark_begins at a (b ∷ rest) begins ∙ long_there at a b rest m long;
 }
 
 pub mark_text_prints : {A : Type 0} {N : A → List Token → Type 0} {Is : A → Type 0} (source bs : List ℕ) (m : Mark) (value : ℕ → A) → IsMarkText bs m
@@ -102,10 +83,10 @@ other_than_space : (a b : ℕ) → is_space a ≡ false → is_space b ≡ true 
 other_than_space a b other space = ne_eqb a b (λ e. false≢true (sym other ∙ ap is_space e ∙ space))
 
 -- one byte that with white space is no mark of two
-before_space : (a : ℕ) (m : Mark) → is_mark_byte a ≡ true → short_mark a ≡ Some m → ((b : ℕ) → is_space b ≡ true → long_mark a b ≡ None) → IsSpacedMark (a ∷ []) m
+before_space : (a : ℕ) (m : Mark) → BeginsMark a → short_mark a ≡ Some m → ((b : ℕ) → is_space b ≡ true → long_mark a b ≡ None) → IsSpacedMark (a ∷ []) m
 before_space a m begins short long = record {
-  apart = λ l b rest space. mark_apart a (begins_mark a begins) l (b ∷ rest);
-  stands = λ at b rest space. mark_begins at a (b ∷ rest) (begins_mark a begins) ∙ short_there at a b rest m short (long b space);
+  apart = λ l b rest space. mark_apart a begins l (b ∷ rest);
+  stands = λ at b rest space. mark_begins at a (b ∷ rest) begins ∙ short_there at a b rest m short (long b space);
 }
 
 pub assign_mark : IsSpacedMark (codes "=") marks.Assign

@@ -85,14 +85,8 @@ suffix_ends (b ∷ rest) ends = rw (other_is_no_letter b ends) refl where
 
 -- ---- numbers
 
-digit_is_no_space : (b : ℕ) → is_digit b ≡ true → is_space b ≡ false
-digit_is_no_space b h = grind (arith, nat_tests)
-
-digit_is_no_slash : (b : ℕ) → is_digit b ≡ true → (47 == b) ≡ false
-digit_is_no_slash b h = grind (arith, nat_tests)
-
-digit_is_no_semicolon : (b : ℕ) → is_digit b ≡ true → (59 == b) ≡ false
-digit_is_no_semicolon b h = grind (arith, nat_tests)
+digit_begins_none : (l : Bool) (b : ℕ) (text : List ℕ) → is_digit b ≡ true → separator_length l (b ∷ text) ≡ None
+digit_begins_none l b text h = begins_none l b text (grind (arith, nat_tests)) (grind (arith, nat_tests)) (grind (arith, nat_tests))
 
 -- the digits, and behind them the suffix
 number_there : (at n m : ℕ) (text digits suffix rest : List ℕ) → prefix_len is_digit text ≡ n → take n text ≡ digits → drop n text ≡ rest
@@ -112,9 +106,7 @@ pub record NumberText (digits suffix : List ℕ) (kind : NumberKind) : Type 0 wh
 
 number_apart : (digits suffix rest : List ℕ) → is_number_text digits ≡ true → (l : Bool) → separator_length l ((digits ++ suffix) ++ rest) ≡ None
 number_apart [] suffix rest h l = absurd (false≢true h)
-number_apart (b ∷ ds) suffix rest h l =
-    let digit = (and_parts (is_digit b) (list_all is_digit ds) (number_text_is_digits (b ∷ ds) h)).0 in
-    begins_none l b ((ds ++ suffix) ++ rest) (digit_is_no_space b digit) (digit_is_no_slash b digit) (digit_is_no_semicolon b digit)
+number_apart (b ∷ ds) suffix rest h l = digit_begins_none l b ((ds ++ suffix) ++ rest) (and_parts (is_digit b) (list_all is_digit ds) (number_text_is_digits (b ∷ ds) h)).0
 
 kind_of : (digits suffix : List ℕ) (kind : NumberKind) → NumberText digits suffix kind → number_kind digits suffix ≡ kind
 unfolding number_kind

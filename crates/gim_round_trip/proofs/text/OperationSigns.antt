@@ -70,33 +70,16 @@ sign_spaced operations.Ge h = spaced (codes ">=") marks.GreaterEqual (two_bytes 
 sign_spaced code h = absurd (false≢true h)
 
 sign_means : (code : Code) (span : Span) → is_infix code ≡ true → infix_code (tokens.Mark (sign_mark code) span) ≡ Some code
-sign_means operations.Convert span h = absurd (false≢true h)
-sign_means operations.Negate span h = absurd (false≢true h)
-sign_means operations.Abs span h = absurd (false≢true h)
-sign_means operations.Absu span h = absurd (false≢true h)
-sign_means operations.BitNot span h = absurd (false≢true h)
-sign_means operations.Min span h = absurd (false≢true h)
-sign_means operations.Max span h = absurd (false≢true h)
-sign_means operations.Cond span h = absurd (false≢true h)
-sign_means code span h = refl
+sign_means operations.Plus span h = cc
+sign_means code span h = cc
 
 comparison_means : (code : Code) (span : Span) → is_comparison_code code ≡ true → comparison_code (tokens.Mark (sign_mark code) span) ≡ Some code
-comparison_means operations.Eq span h = refl
-comparison_means operations.Ne span h = refl
-comparison_means operations.Lt span h = refl
-comparison_means operations.Le span h = refl
-comparison_means operations.Gt span h = refl
-comparison_means operations.Ge span h = refl
-comparison_means code span h = absurd (false≢true h)
+comparison_means operations.Eq span h = cc
+comparison_means code span h = cc
 
 pub comparison_is_infix : (code : Code) → is_comparison_code code ≡ true → is_infix code ≡ true
-comparison_is_infix operations.Eq h = refl
-comparison_is_infix operations.Ne h = refl
-comparison_is_infix operations.Lt h = refl
-comparison_is_infix operations.Le h = refl
-comparison_is_infix operations.Gt h = refl
-comparison_is_infix operations.Ge h = refl
-comparison_is_infix code h = absurd (false≢true h)
+comparison_is_infix operations.Eq h = cc
+comparison_is_infix code h = cc
 
 -- a sign with a blank on both sides, by what its token means
 sign_between : (source : List ℕ) (meaning : Token → Option Code) (code : Code) → is_infix code ≡ true → ((span : Span) → meaning (tokens.Mark (sign_mark code) span) ≡ Some code)
@@ -106,8 +89,8 @@ sign_between source meaning code h means =
     blanks_after (codes " ") refl (λ rest. refl) (blanks_before (codes " ") refl
     (spaced_mark_prints source sign (sign_mark code) (λ at. tt) (sign_spaced code h) (λ at. (tokens.Mark (sign_mark code) (place at (length sign)), means (place at (length sign)), refl)) (λ at e. tt)))
 
-pub infix_sign_prints : (source : List ℕ) (code : Code) → is_infix code ≡ true → Prints source any_end (λ (u : Unit {0}). Meant infix_code code) (λ u. Unit {0}) (codes " " ++ sign_text code ++ codes " ")
-infix_sign_prints source code h = sign_between source infix_code code h (λ span. sign_means code span h)
+pub sign_prints : (source : List ℕ) (code : Code) → is_infix code ≡ true → Prints source any_end (λ (u : Unit {0}). Meant infix_code code) (λ u. Unit {0}) (codes " " ++ sign_text code ++ codes " ")
+sign_prints source code h = sign_between source infix_code code h (λ span. sign_means code span h)
 
-pub comparison_sign_prints : (source : List ℕ) (code : Code) → is_comparison_code code ≡ true → Prints source any_end (λ (u : Unit {0}). Meant comparison_code code) (λ u. Unit {0}) (codes " " ++ sign_text code ++ codes " ")
-comparison_sign_prints source code h = sign_between source comparison_code code (comparison_is_infix code h) (λ span. comparison_means code span h)
+pub comparison_prints : (source : List ℕ) (code : Code) → is_comparison_code code ≡ true → Prints source any_end (λ (u : Unit {0}). Meant comparison_code code) (λ u. Unit {0}) (codes " " ++ sign_text code ++ codes " ")
+comparison_prints source code h = sign_between source comparison_code code (comparison_is_infix code h) (λ span. comparison_means code span h)

@@ -32,7 +32,8 @@ use Rattle.gim_statements.specs.Words.{prefix_code, call_code}
 use Rattle.gim_statements.specs.Grammar.{◌▸◌, AMark, SpellsOperand, MayStandUnder, SpellsForm, SpellsRight}
 use Rattle.gim_round_trip.specs.ReadBack.{IsWithinLimits}
 use Rattle.gim_round_trip.proofs.text.Prints.{Close, any_end, word_end, Prints, joined, seen, sooner, blanks_before, blanks_after}
-use Rattle.gim_round_trip.proofs.text.Tokens.{keyword_text, keyword_prints, mark_prints, is_infix, sign_prints, a_mark_prints}
+use Rattle.gim_round_trip.proofs.text.OperationSigns.{is_infix, sign_prints}
+use Rattle.gim_round_trip.proofs.text.Tokens.{keyword_text, keyword_there, is_plain_mark, plain_mark_text, mark_there, a_mark_prints}
 use Rattle.gim_round_trip.proofs.text.Operands.{type_prints, operand_prints, negated_prints}
 use Rattle.gim_round_trip.proofs.text.Sequences.{Quiet, lead, trail, told}
 use Rattle.gim_round_trip.proofs.tree.Writes.{WritesOperand, WritesForm}
@@ -90,34 +91,11 @@ started {Is = Is} one = record {
 
 -- ---- what the sign of an operation means
 
--- a token of one meaning as one of another
-meant_as : {source : List ℕ} {end : Close} {asked : Token → Option Span} {bs : List ℕ} (meaning : Token → Option Code) (op : Code)
-    → ((t : Token) (at : Span) → asked t ≡ Some at → meaning t ≡ Some op) → Prints source end (λ (at : Span). Meant asked at) (λ at. Unit {0}) bs → Quiet source end (Meant meaning op) bs
-meant_as meaning op means one = seen one (λ at. tt) (λ at w is h. (h.0, means h.0 at h.1, h.2)) (λ at is. tt)
+mark_of : (source : List ℕ) (meaning : Token → Option Code) (op : Code) (m : Mark) → is_plain_mark m ≡ true → ((at : Span) → meaning (tokens.Mark m at) ≡ Some op) → Quiet source any_end (Meant meaning op) (plain_mark_text m)
+mark_of source meaning op m plain means = seen (mark_there source m plain) (λ at. tt) (λ at w is e. (tokens.Mark m at, means at, e)) (λ at is. tt)
 
-minus_means : (t : Token) (at : Span) → mark marks.Minus t ≡ Some at → prefix_code t ≡ Some operations.Negate
-minus_means (tokens.Mark marks.Minus here) at h = refl
-minus_means t at h = cc
-
-tilde_means : (t : Token) (at : Span) → mark marks.Tilde t ≡ Some at → prefix_code t ≡ Some operations.BitNot
-tilde_means (tokens.Mark marks.Tilde here) at h = refl
-tilde_means t at h = cc
-
-abs_means : (t : Token) (at : Span) → keyword keywords.Abs t ≡ Some at → prefix_code t ≡ Some operations.Abs
-abs_means (tokens.Keyword keywords.Abs here) at h = refl
-abs_means t at h = cc
-
-absu_means : (t : Token) (at : Span) → keyword keywords.Absu t ≡ Some at → prefix_code t ≡ Some operations.Absu
-absu_means (tokens.Keyword keywords.Absu here) at h = refl
-absu_means t at h = cc
-
-min_means : (t : Token) (at : Span) → keyword keywords.Min t ≡ Some at → call_code t ≡ Some operations.Min
-min_means (tokens.Keyword keywords.Min here) at h = refl
-min_means t at h = cc
-
-max_means : (t : Token) (at : Span) → keyword keywords.Max t ≡ Some at → call_code t ≡ Some operations.Max
-max_means (tokens.Keyword keywords.Max here) at h = refl
-max_means t at h = cc
+word_of : (source : List ℕ) (meaning : Token → Option Code) (op : Code) (k : Keyword) → ((at : Span) → meaning (tokens.Keyword k at) ≡ Some op) → Quiet source word_end (Meant meaning op) (keyword_text k)
+word_of source meaning op k means = seen (keyword_there source k) (λ at. tt) (λ at w is e. (tokens.Keyword k at, means at, e)) (λ at is. tt)
 
 -- ---- one operand
 
@@ -137,7 +115,7 @@ negate_prints : (source : List ℕ) (f : Function) (t : Ty) (a : Operand)
     → Prints source word_end (λ (tree : OperandText) (w : List Token). MayStandUnder operations.Negate tree × SpellsOperand tree w) (λ tree. WritesOperand source f tree a) (negated_text f a)
     → FormIsRead source f t (sides.Op operations.Negate (a ∷ [])) (codes "-" ++ negated_text f a)
 negate_prints source f t a one =
-    let sign = meant_as prefix_code operations.Negate minus_means (mark_prints source marks.Minus refl) in
+    let sign = mark_of source prefix_code operations.Negate marks.Minus refl (λ at. refl) in
     seen (lead sign (λ rest. tt) one) (λ tree. Unary operations.Negate tree) (λ tree w is h. (h.3.0, (h.0, h.1, h.2, h.3.1, h.4))) (λ tree is. (refl, is))
 
 prefix_prints : (source : List ℕ) (f : Function) (t : Ty) (op : Code) (a : Operand) (bs : List ℕ) → ((tree : OperandText) → MayStandUnder op tree)
@@ -150,12 +128,12 @@ unfolding prefix_text
 unary_prints source f t operations.Convert a well limits is holds typed = cast_prints source f t a is (operand_prints source f a well limits holds)
 unary_prints source f t operations.Negate a well limits is holds typed = negate_prints source f t a (negated_prints source f a well limits holds)
 unary_prints source f t operations.BitNot a well limits is holds typed =
-    prefix_prints source f t operations.BitNot a (codes "~") (λ tree. tt) (meant_as prefix_code operations.BitNot tilde_means (mark_prints source marks.Tilde refl)) (operand_prints source f a well limits holds)
+    prefix_prints source f t operations.BitNot a (codes "~") (λ tree. tt) (mark_of source prefix_code operations.BitNot marks.Tilde refl (λ at. refl)) (operand_prints source f a well limits holds)
 unary_prints source f t operations.Abs a well limits is holds typed =
-    let sign = blanks_after (codes " ") refl (λ rest. refl) (meant_as prefix_code operations.Abs abs_means (keyword_prints source keywords.Abs)) in
+    let sign = blanks_after (codes " ") refl (λ rest. refl) (word_of source prefix_code operations.Abs keywords.Abs (λ at. refl)) in
     prefix_prints source f t operations.Abs a (codes "__ABS ") (λ tree. tt) sign (operand_prints source f a well limits holds)
 unary_prints source f t operations.Absu a well limits is holds typed =
-    let sign = blanks_after (codes " ") refl (λ rest. refl) (meant_as prefix_code operations.Absu absu_means (keyword_prints source keywords.Absu)) in
+    let sign = blanks_after (codes " ") refl (λ rest. refl) (word_of source prefix_code operations.Absu keywords.Absu (λ at. refl)) in
     prefix_prints source f t operations.Absu a (codes "__ABSU ") (λ tree. tt) sign (operand_prints source f a well limits holds)
 unary_prints source f t op a well limits is holds typed = absurd (false≢true typed)
 
@@ -175,10 +153,10 @@ call_whole : (word a b : List ℕ) → word ++ (codes " (" ++ (a ++ (codes ", " 
 call_whole word a b = simp append_assoc
 
 call_prints : (source : List ℕ) (f : Function) (t : Ty) (op : Code) (word : Keyword) (a b : Operand)
-    → ((t : Token) (at : Span) → keyword word t ≡ Some at → call_code t ≡ Some op) → IsRead source f a → IsRead source f b
+    → ((at : Span) → call_code (tokens.Keyword word at) ≡ Some op) → IsRead source f a → IsRead source f b
     → FormIsRead source f t (sides.Op op (a ∷ b ∷ [])) (keyword_text word ++ codes " (" ++ operand_text f a ++ codes ", " ++ operand_text f b ++ codes ")")
 call_prints source f t op word a b means one two =
-    let called = meant_as call_code op means (keyword_prints source word) in
+    let called = word_of source call_code op word means in
     let inner = joined one (λ rest. refl) (lead (a_mark_prints source marks.Comma refl) (λ rest. tt) (blanks_before (codes " ") refl (trail two (λ rest. refl) (a_mark_prints source marks.Close refl)))) in
     let whole = lead called (λ rest. refl) (blanks_before (codes " ") refl (lead (a_mark_prints source marks.Open refl) (λ rest. tt) inner)) in
     told (call_whole (keyword_text word) (operand_text f a) (operand_text f b)) (sooner (seen whole (λ trees. Binary op trees.0 trees.1) (λ trees w is h. inr h) (λ trees is. (refl, is.0, is.1))))
@@ -189,28 +167,13 @@ is_call operations.Max = true
 is_call op = false
 
 typed_is_infix : (op : Code) (t a b : Ty) → is_call op ≡ false → well_typed_binary op t a b ≡ true → is_infix op ≡ true
-typed_is_infix operations.Plus t a b other typed = refl
-typed_is_infix operations.Minus t a b other typed = refl
-typed_is_infix operations.Mult t a b other typed = refl
-typed_is_infix operations.TruncDiv t a b other typed = refl
-typed_is_infix operations.TruncMod t a b other typed = refl
-typed_is_infix operations.BitAnd t a b other typed = refl
-typed_is_infix operations.BitIor t a b other typed = refl
-typed_is_infix operations.BitXor t a b other typed = refl
-typed_is_infix operations.Lshift t a b other typed = refl
-typed_is_infix operations.Rshift t a b other typed = refl
-typed_is_infix operations.Eq t a b other typed = refl
-typed_is_infix operations.Ne t a b other typed = refl
-typed_is_infix operations.Lt t a b other typed = refl
-typed_is_infix operations.Le t a b other typed = refl
-typed_is_infix operations.Gt t a b other typed = refl
-typed_is_infix operations.Ge t a b other typed = refl
+typed_is_infix operations.Plus t a b other typed = cc
 typed_is_infix op t a b other typed = cc
 
 binary_prints : (source : List ℕ) (f : Function) (t : Ty) (op : Code) (a b : Operand) → IsRead source f a → IsRead source f b
     → well_typed_binary op t (type_of a) (type_of b) ≡ true → FormIsRead source f t (sides.Op op (a ∷ b ∷ [])) (binary_text f op a b)
-binary_prints source f t operations.Min a b one two typed = call_prints source f t operations.Min keywords.Min a b min_means one two
-binary_prints source f t operations.Max a b one two typed = call_prints source f t operations.Max keywords.Max a b max_means one two
+binary_prints source f t operations.Min a b one two typed = call_prints source f t operations.Min keywords.Min a b (λ at. refl) one two
+binary_prints source f t operations.Max a b one two typed = call_prints source f t operations.Max keywords.Max a b (λ at. refl) one two
 binary_prints source f t op a b one two typed = infix_prints source f t op a b (typed_is_infix op t (type_of a) (type_of b) refl typed) one two
 
 -- ---- three operands

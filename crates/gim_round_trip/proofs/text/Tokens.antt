@@ -31,8 +31,6 @@ use Rattle.gim_round_trip.proofs.text.Words.{word_prints, identifier_is_word, id
 use Rattle.gim_lexer.proofs.LongestMatch.{number_is_word}
 use Rattle.gim_round_trip.proofs.text.Numbers.{written_number_prints}
 use Rattle.gim_round_trip.proofs.text.Marks.{IsMarkText, one_byte, mark_text_prints, assign_mark, semicolon_mark, spaced_mark_prints}
-use Rattle.gim_round_trip.proofs.text.OperationSigns.{infix_sign_prints, comparison_sign_prints}
-pub use Rattle.gim_round_trip.proofs.text.OperationSigns.{is_infix, comparison_is_infix}
 
 -- ---- words
 
@@ -152,13 +150,6 @@ assign_prints source = spaced_mark_prints source (codes "=") marks.Assign (λ at
 
 pub semicolon_prints : (source : List ℕ) → Prints source blank_end (λ (at : Span). Meant (mark marks.Semicolon) at) (λ at. Unit {0}) (codes ";")
 semicolon_prints source = spaced_mark_prints source (codes ";") marks.Semicolon (λ at. place at 1) semicolon_mark (λ at. (tokens.Mark marks.Semicolon (place at 1), refl, refl)) (λ at e. tt)
-
--- the sign of an operation between two operands, with a blank on both sides
-pub sign_prints : (source : List ℕ) (code : Code) → is_infix code ≡ true → Prints source any_end (λ (u : Unit {0}). Meant infix_code code) (λ u. Unit {0}) (codes " " ++ sign_text code ++ codes " ")
-sign_prints source code h = infix_sign_prints source code h
-
-pub comparison_prints : (source : List ℕ) (code : Code) → is_comparison_code code ≡ true → Prints source any_end (λ (u : Unit {0}). Meant comparison_code code) (λ u. Unit {0}) (codes " " ++ sign_text code ++ codes " ")
-comparison_prints source code h = comparison_sign_prints source code h
 
 -- ---- blocks and numbers
 

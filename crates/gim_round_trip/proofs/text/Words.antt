@@ -42,22 +42,14 @@ unfolding separator_length
 begins_none true b text space slash semicolon = rw (space, slash, semicolon) refl
 begins_none false b text space slash semicolon = rw (space, slash) refl
 
-letter_is_no_space : (b : ℕ) → is_letter b ≡ true → is_space b ≡ false
-letter_is_no_space b h = grind (arith, nat_tests)
-
-letter_is_no_slash : (b : ℕ) → is_letter b ≡ true → (47 == b) ≡ false
-letter_is_no_slash b h = grind (arith, nat_tests)
-
-letter_is_no_semicolon : (b : ℕ) → is_letter b ≡ true → (59 == b) ≡ false
-letter_is_no_semicolon b h = grind (arith, nat_tests)
+letter_begins_none : (l : Bool) (b : ℕ) (text : List ℕ) → is_letter b ≡ true → separator_length l (b ∷ text) ≡ None
+letter_begins_none l b text h = begins_none l b text (grind (arith, nat_tests)) (grind (arith, nat_tests)) (grind (arith, nat_tests))
 
 -- ---- words
 
 word_apart : (bs : List ℕ) → is_word_text bs ≡ true → (l : Bool) (rest : List ℕ) → separator_length l (bs ++ rest) ≡ None
 word_apart [] text l rest = absurd (false≢true text)
-word_apart (b ∷ bs) text l rest =
-    let letter = (and_parts (is_letter b) (list_all is_word_byte bs) text).0 in
-    begins_none l b (bs ++ rest) (letter_is_no_space b letter) (letter_is_no_slash b letter) (letter_is_no_semicolon b letter)
+word_apart (b ∷ bs) text l rest = letter_begins_none l b (bs ++ rest) (and_parts (is_letter b) (list_all is_word_byte bs) text).0
 
 word_there : (at : ℕ) (bs rest : List ℕ) → prefix_len is_word_byte (bs ++ rest) ≡ length bs → word_at at (bs ++ rest) ≡ word_token bs (place at (length bs))
 unfolding word_at

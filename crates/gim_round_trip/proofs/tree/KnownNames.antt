@@ -28,39 +28,16 @@ use Rattle.gim_making.specs.Trees.{no_word, operand_of}
 use Rattle.gim_making.proofs.Membership.{Has, has_left, has_right, has_map, any_has, none_has, none_from_has}
 use Rattle.gim_making.proofs.PartLemmas.{text_itself, same_text_is}
 use Rattle.gim_round_trip.specs.ReadBack.{IsWithinLimits}
+use Rattle.gim_round_trip.proofs.tree.DistinctTexts.{front_distinct, rest_distinct, not_again, apart}
 use Rattle.gim_round_trip.proofs.tree.Rows.{name_facts}
 use Rattle.gim_round_trip.proofs.tree.SmallNumbers.{number_of_decimal}
 use Rattle.gim_round_trip.proofs.tree.WellFormedParts.{each_operand_holds, operand_row}
 use Rattle.gim_round_trip.proofs.tree.Writes.{WritesWell, WritesDecl, WritesOperand}
 
--- ---- distinct identifiers
-
-front_distinct : (xs ys : List (List ℕ)) → all_distinct same_text (xs ++ ys) ≡ true → all_distinct same_text xs ≡ true
-front_distinct [] ys h = refl
-front_distinct (x ∷ xs) ys h =
-    let p = and_parts (not (list_any (same_text x) (xs ++ ys))) (all_distinct same_text (xs ++ ys)) h in
-    let other : list_any (same_text x) xs ≡ false = none_from_has (same_text x) xs (λ y there same. none_has (same_text x) (xs ++ ys) (not-true (list_any (same_text x) (xs ++ ys)) p.0) y (has_left xs ys y there) same) in
-    and_from (not (list_any (same_text x) xs)) (all_distinct same_text xs) (ap not other) (front_distinct xs ys p.1)
-
-rest_distinct : (xs ys : List (List ℕ)) → all_distinct same_text (xs ++ ys) ≡ true → all_distinct same_text ys ≡ true
-rest_distinct [] ys h = h
-rest_distinct (x ∷ xs) ys h = rest_distinct xs ys (and_parts (not (list_any (same_text x) (xs ++ ys))) (all_distinct same_text (xs ++ ys)) h).1
-
--- the first of distinct identifiers isn't one of the others
-not_again : (x : List ℕ) (xs : List (List ℕ)) → all_distinct same_text (x ∷ xs) ≡ true → Has xs x → ⊥
-not_again x xs h there =
-    let p = and_parts (not (list_any (same_text x) xs)) (all_distinct same_text xs) h in
-    none_has (same_text x) xs (not-true (list_any (same_text x) xs) p.0) x there (text_itself x)
-
-apart : (xs ys : List (List ℕ)) → all_distinct same_text (xs ++ ys) ≡ true → (x : List ℕ) → Has xs x → Has ys x → ⊥
-apart [] ys h x there here = absurd there
-apart (z ∷ xs) ys h x (inl e) here = not_again z (xs ++ ys) h (has_right xs ys z (subst (Has ys) (sym e) here))
-apart (z ∷ xs) ys h x (inr there) here = apart xs ys (and_parts (not (list_any (same_text z) (xs ++ ys))) (all_distinct same_text (xs ++ ys)) h).1 x there here
+-- ---- types of identifiers
 
 idents_distinct : (f : Function) → IsWellFormed f → all_distinct same_text (map ident_of f.params ++ map ident_of f.decls) ≡ true
 idents_distinct f well = subst (λ l. all_distinct same_text l ≡ true) (map-append ident_of f.params f.decls) (and_parts _ _ (and_parts _ _ well.declarations).0).1
-
--- ---- types of identifiers
 
 -- what is declared is the identifier and the type of a declaration
 pub declared_as : (ident : List ℕ) (t : Ty) (decls : List Decl) → declares_as ident t decls ≡ true → (decl : Decl) × Has decls decl × (decl.ident ≡ ident) × (decl.ty ≡ t)

@@ -43,27 +43,7 @@ nothing_is R v [] ys pairs each = refl
 nothing_is R v (a ∷ xs) [] pairs each = absurd pairs
 nothing_is R v (a ∷ xs) (b ∷ ys) pairs each = ap (λ l. l ++ flat_map v xs) (each a b pairs.0) ∙ nothing_is R v xs ys pairs.1 each
 
--- ---- in parts
-
-pub paired_both : {X Y : Type 0} (R : X → Y → Type 0) (xs us : List X) (ys vs : List Y) → AllZip R xs ys → AllZip R us vs → AllZip R (xs ++ us) (ys ++ vs)
-paired_both R [] us [] vs front back = back
-paired_both R [] us (y ∷ ys) vs front back = absurd front
-paired_both R (x ∷ xs) us [] vs front back = absurd front
-paired_both R (x ∷ xs) us (y ∷ ys) vs front back = (front.0, paired_both R xs us ys vs front.1 back)
-
 -- ---- images
-
-pub paired_images : {X Y A B : Type 0} (R : X → Y → Type 0) (S : A → B → Type 0) (g : X → A) (h : Y → B) (xs : List X) (ys : List Y) → ((x : X) (y : Y) → R x y → S (g x) (h y)) → AllZip R xs ys → AllZip S (map g xs) (map h ys)
-paired_images R S g h [] [] each pairs = tt
-paired_images R S g h [] (y ∷ ys) each pairs = absurd pairs
-paired_images R S g h (x ∷ xs) [] each pairs = absurd pairs
-paired_images R S g h (x ∷ xs) (y ∷ ys) each pairs = (each x y pairs.0, paired_images R S g h xs ys each pairs.1)
-
-pub paired_flat : {X Y A B : Type 0} (R : X → Y → Type 0) (S : A → B → Type 0) (g : X → List A) (h : Y → List B) (xs : List X) (ys : List Y) → ((x : X) (y : Y) → R x y → AllZip S (g x) (h y)) → AllZip R xs ys → AllZip S (flat_map g xs) (flat_map h ys)
-paired_flat R S g h [] [] each pairs = tt
-paired_flat R S g h [] (y ∷ ys) each pairs = absurd pairs
-paired_flat R S g h (x ∷ xs) [] each pairs = absurd pairs
-paired_flat R S g h (x ∷ xs) (y ∷ ys) each pairs = paired_both S (g x) (flat_map g xs) (h y) (flat_map h ys) (each x y pairs.0) (paired_flat R S g h xs ys each pairs.1)
 
 pub same_images : {X Y A : Type 0} (R : X → Y → Type 0) (g : X → A) (h : Y → A) (xs : List X) (ys : List Y) → ((x : X) (y : Y) → R x y → g x ≡ h y) → AllZip R xs ys → map g xs ≡ map h ys
 same_images R g h [] [] each pairs = refl
