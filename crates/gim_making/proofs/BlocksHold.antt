@@ -19,6 +19,7 @@ use Rattle.gim_text.specs.declared.tree.EndText.TheVariants.{Goto, If, Return}
 use Rattle.gim_text.specs.declared.tree.FunctionText.{FunctionText}
 use Rattle.gim_text.specs.declared.tree.ItemText.{ItemText}
 use Rattle.gim_text.specs.declared.tree.ItemText.TheVariants as items
+use Rattle.gim_text.specs.Occurrences.{targets_in_end}
 use Rattle.gim_text.specs.Texts.{text_of}
 use Rattle.gim_names.specs.Kept.{KeepsNames, number_text}
 use Rattle.gim_shape.specs.Blocks as shape
@@ -28,11 +29,12 @@ use Rattle.gim_shape.specs.Phis.{named_by_args, has_args, is_each_once}
 use Rattle.gim_making.specs.Declarations.{Declarations, declarations_of, number_of, version_of_name}
 use Rattle.gim_making.specs.Standing.{made}
 use Rattle.gim_making.specs.Trees.{arg_of, phi_of, end_of, block_of}
-use Rattle.gim_making.specs.Written.{targets_of_end, targets_of_item, targets_of_block, target_of_arg, IsWritten}
-use Rattle.gim_making.proofs.Membership.{Has, has_left, has_right, has_map, from_map, has_flat, from_flat, all_from_has}
+use Rattle.gim_making.specs.Written.{IsWritten}
+use Rattle.gim_making.proofs.Membership.{Has, from_map, from_flat, all_from_has, each_has}
+use Rattle.gim_making.proofs.Occurring.{target_occurs, argument_occurs}
 use Rattle.gim_making.proofs.MadeLemmas.{no_phis}
 use Rattle.gim_making.proofs.PartLemmas.{text_itself, same_text_is, IsSmall, same_number}
-use Rattle.gim_making.proofs.SmallLemmas.{each_has, small_block, small_target}
+use Rattle.gim_making.proofs.SmallNumbers.{small_block, small_target}
 
 -- ---- numbers and their texts
 
@@ -90,7 +92,7 @@ numbers_small source tree written limits t there =
 
 -- ---- jumps
 
-jump_is_target : (end : EndText) (at : Span) → Has (jumps_of_end end) at → Has (targets_of_end (Some end)) at
+jump_is_target : (end : EndText) (at : Span) → Has (jumps_of_end end) at → Has (targets_in_end (Some end)) at
 jump_is_target (Goto to) at h = h
 jump_is_target (If code a b yes_to no_to) at h = h
 jump_is_target (Return a) at h = h
@@ -123,7 +125,7 @@ known_block source tree written limits shaped block there =
       there = there;
       end = e.0;
       ends = e.1;
-      jumps = λ at h. small_target source tree written limits block there at (has_right (flat_map targets_of_item block.items) (targets_of_end block.end) at (subst (λ o. Has (targets_of_end o) at) (sym e.1) (jump_is_target e.0 at h)));
+      jumps = λ at h. small_target source tree written limits at (target_occurs tree block at there (subst (λ o. Has (targets_in_end o) at) (sym e.1) (jump_is_target e.0 at h)));
       leads = λ at h. each_has (Leads source tree.blocks) (jumps_of block) holds.jumps at (subst (λ l. Has l at) (sym jumps_same) h);
       number = small_block source tree written limits block there;
     }
@@ -193,8 +195,7 @@ phi_numbers known (arg ∷ args) = ap (λ l. number_of (named_at known.source ar
 named_small : (source : List ℕ) (tree : FunctionText) → IsWritten source tree → KeepsLimits source tree → (block : BlockText) → Has tree.blocks block → (name : Span) (args : List ArgText) → Has block.items (items.Phi name args) → AllSmall (named_by_args source args)
 named_small source tree written limits block there name args item t h =
     let a = from_map (λ (arg : ArgText). named_at source arg.from) args t h in
-    let target : Has (targets_of_block block) a.0.from = has_left (flat_map targets_of_item block.items) (targets_of_end block.end) a.0.from (has_flat targets_of_item block.items (items.Phi name args) a.0.from item (has_map target_of_arg args a.0 a.1)) in
-    subst IsSmall a.2 (small_target source tree written limits block there a.0.from target)
+    subst IsSmall a.2 (small_target source tree written limits a.0.from (argument_occurs tree block name args a.0 there item a.1))
 
 some_args : (known : Declarations) (args : List ArgText) → has_args args ≡ true → not (is_empty (map (arg_of known) args)) ≡ true
 some_args known [] h = absurd (false≢true h)

@@ -1,7 +1,7 @@
 -- A function that is made has fewer than 2 ^ 31 blocks, names and operands.
 use Rattle.std.proofs.Common.{◌≡◌, ◌⊎◌, ℕ, suc, ◌^◌, ◌<◌, ◌≤◌, Bool, true, false, cond, Option, Some, None, option_map, List, [], ◌∷◌, map, length, refl, sym, ap, subst, ◌∙◌, arith, inl, inr}
 use Rattle.std.specs.Prelude.{◌&&◌, ◌||◌, nat_lt}
-use Rattle.std.specs.List.{list_all, filter_map, cons_option, IsDistinct, AllByRecursion}
+use Rattle.std.specs.List.{list_all, IsDistinct, AllByRecursion}
 use Rattle.std.specs.Set.{unique_keys, is_member}
 use Rattle.std.specs.Fmt.{decimal}
 use Rattle.std.specs.Cmp.Lexicographic.{nat_list_eq_equiv}
@@ -11,23 +11,22 @@ use Rattle.gim_ast.specs.declared.function.NameRow.{NameRow}
 use Rattle.gim_ast.specs.Functions.{operands_of}
 use Rattle.gim_ast.specs.WellFormed.{same_text, rises, bounds_hold}
 use Rattle.gim_text.specs.declared.tree.FunctionText.{FunctionText}
+use Rattle.gim_text.specs.Occurrences.{occurrences_of}
 use Rattle.gim_names.specs.Kept.{KeepsNames}
-use Rattle.gim_shape.specs.declared.places.Place.TheVariants.{Name}
 use Rattle.gim_shape.specs.Blocks.{is_among}
 use Rattle.gim_shape.specs.Kept.{KeepsLimits}
 use Rattle.gim_shape.specs.Limits.{version_at, versions_of, different}
-use Rattle.gim_shape.specs.Places.{places_of}
 use Rattle.gim_making.specs.Declarations.{declarations_of, number_of}
-use Rattle.gim_making.specs.Names.{AreNames, version_of, named_rows}
+use Rattle.gim_making.specs.Names.{AreNames, version_of, name_place, named_rows}
 use Rattle.gim_making.specs.Standing.{made}
 use Rattle.gim_making.specs.Trees.{operand_of, block_of}
-use Rattle.gim_making.specs.Written.{texts_in, IsWritten}
-use Rattle.gim_making.proofs.Membership.{Has, from_map, any_has, any_from_has}
+use Rattle.gim_making.specs.Written.{operands_in, IsWritten}
+use Rattle.gim_making.proofs.Membership.{Has, from_map, has_said, from_said, any_has, any_from_has}
 use Rattle.gim_making.proofs.MadeLemmas.{ArePhisFirst, made_operands}
 use Rattle.gim_making.proofs.NameRowLemmas.{above, name_is_row}
 use Rattle.gim_making.proofs.PartLemmas.{same_text_is}
 use Rattle.gim_making.proofs.PlaceLemmas.{AreSmall, row_place}
-use Rattle.gim_making.proofs.SmallLemmas.{name_is_place}
+use Rattle.gim_making.proofs.SmallNumbers.{named_version}
 
 length-map : {X Y : Type 0} (f : X → Y) (xs : List X) → length (map f xs) ≡ length xs
 length-map f [] = refl
@@ -71,27 +70,19 @@ unique_keeps q (t ∷ ts) h = kept_by (is_member same_text ts t) t q ts (unique_
 
 -- ---- versions of names
 
-cons_later : {Y : Type 0} (o : Option Y) (ys : List Y) (y : Y) → Has ys y → Has (cons_option o ys) y
-cons_later None ys y h = h
-cons_later (Some z) ys y h = inr h
-
-pub with_here : {X Y : Type 0} (f : X → Option Y) (xs : List X) (x : X) (y : Y) → Has xs x → f x ≡ Some y → Has (filter_map f xs) y
-with_here f [] x y h e = absurd h
-with_here f (z ∷ xs) x y (inl same) e = let is : f z ≡ Some y = ap f same ∙ e in subst (λ o. Has (cons_option o (filter_map f xs)) y) (sym is) (inl refl)
-with_here f (z ∷ xs) x y (inr h) e = cons_later (f z) (filter_map f xs) y (with_here f xs x y h e)
-
 abbrev pub version_digits : NameRow → List ℕ
 version_digits row = decimal row.version
 
 pub row_digits : (source : List ℕ) (tree : FunctionText) (names : List NameRow) → KeepsNames source tree → AreSmall source tree → AreNames (named_rows source tree) names → (row : NameRow) → Has names row
-    → Has (versions_of source (places_of source tree)) (version_digits row) × (number_of (version_digits row) ≡ row.version)
+    → Has (versions_of source (occurrences_of tree)) (version_digits row) × (number_of (version_digits row) ≡ row.version)
 row_digits source tree names kept small are row there =
     let p = row_place source tree kept small row (name_is_row source tree names are row there) in
     let f = p.2.0 in
     let version : number_of f.digits ≡ row.version = ap version_of p.2.1 in
     let digits : f.digits ≡ version_digits row = f.small ∙ ap decimal version in
-    let said : version_at source (Name p.0.at) ≡ Some f.digits = ap (λ o. option_map (λ (x : List ℕ × List ℕ). x.1) o) f.parts in
-    (subst (Has (versions_of source (places_of source tree))) digits (with_here (version_at source) (places_of source tree) (Name p.0.at) f.digits (name_is_place source tree p.0 p.1) said), ap number_of (sym digits) ∙ version)
+    let r = from_said (name_place source) (occurrences_of tree) p.0 p.1 in
+    let said : version_at source r.0 ≡ Some f.digits = named_version source r.0 p.0 r.2 ∙ ap (λ o. option_map (λ (x : List ℕ × List ℕ). x.1) o) f.parts in
+    (subst (Has (versions_of source (occurrences_of tree))) digits (has_said (version_at source) (occurrences_of tree) r.0 f.digits r.1 said), ap number_of (sym digits) ∙ version)
 
 pub all_by : {X : Type 0} (P : X → Type 0) (xs : List X) → ((x : X) → Has xs x → P x) → AllByRecursion P xs
 all_by P [] h = tt
@@ -117,7 +108,7 @@ distinct_digits (row ∷ rows) up h =
 
 pub few_names : (source : List ℕ) (tree : FunctionText) (names : List NameRow) → KeepsNames source tree → AreSmall source tree → KeepsLimits source tree → AreNames (named_rows source tree) names → length names ≤ 20000
 few_names source tree names kept small limits are =
-    let versions = versions_of source (places_of source tree) in
+    let versions = versions_of source (occurrences_of tree) in
     let digits = map version_digits names in
     let apart : IsDistinct same_text digits = distinct_digits names are.rising (λ row there. (row_digits source tree names kept small are row there).1) in
     let known : (q : List ℕ) → is_member same_text digits q ≡ true → is_member same_text (unique_keys same_text versions) q ≡ true =
@@ -144,8 +135,8 @@ bounds source tree names written kept small first limits are =
     let few_blocks : length blocks < 2 ^ 31 = omega arith in
     let name_limit : length names ≤ 20000 = few_names source tree names kept small limits are in
     let few_rows : length names < 2 ^ 31 = omega arith in
-    let operands : length (operands_of f) ≡ length (texts_in tree) = ap length (made_operands source tree names first) ∙ length-map (operand_of (declarations_of source tree)) (texts_in tree) in
-    let few_texts : length (texts_in tree) < 2 ^ 31 = written.few in
+    let operands : length (operands_of f) ≡ length (operands_in tree) = ap length (made_operands source tree names first) ∙ length-map (operand_of (declarations_of source tree)) (operands_in tree) in
+    let few_texts : length (operands_in tree) < 2 ^ 31 = written.few in
     let few_operands : length (operands_of f) < 2 ^ 31 = omega arith in
     and_from (nat_lt (length blocks) (2 ^ 31) && nat_lt (length names) (2 ^ 31)) (nat_lt (length (operands_of f)) (2 ^ 31))
     (and_from (nat_lt (length blocks) (2 ^ 31)) (nat_lt (length names) (2 ^ 31)) (lt-ltb (length blocks) (2 ^ 31) few_blocks) (lt-ltb (length names) (2 ^ 31) few_rows)) (lt-ltb (length (operands_of f)) (2 ^ 31) few_operands)

@@ -5,18 +5,11 @@ use Rattle.std.specs.Cmp.Lexicographic.{nat_list_eq_equiv}
 use Rattle.pm_wide.specs.Types.{Ty}
 use Rattle.gim_text.specs.declared.tree.DeclText.{DeclText}
 use Rattle.gim_text.specs.Texts.{text_of}
+use Rattle.gim_names.proofs.TableLemmas.{item_before}
 use Rattle.gim_making.specs.Declarations.{declared_type}
-
--- the list from the place before on
-drop_before : {X : Type 0} (xs : List X) (at : ℕ) (x : X) → 0 < at → at ≤ length xs → x ≡ get_or xs (at - 1) x → drop (at - 1) xs ≡ x ∷ drop at xs
-drop_before xs zero x some within is = absurd (omega arith)
-drop_before xs (suc at) x some within is =
-    let e : suc at - 1 ≡ at = omega arith in
-    let here : x ≡ get_or xs at x = subst (λ i. x ≡ get_or xs i x) e is in
-    rw e (drop-cons xs at x (omega arith) ∙ ap (λ y. y ∷ drop (suc at) xs) (sym here))
 
 -- one declaration more, before the others
 pub declared_step : (source q ident : List ℕ) (decls : List DeclText) (at : ℕ) (decl : DeclText) (old new : Option Ty) → 0 < at → at ≤ length decls → decl ≡ get_or decls (at - 1) decl
     → ident ≡ text_of source decl.ident → new ≡ cond (bytes_eq ident q) (Some decl.ty) old → old ≡ declared_type source q (drop at decls) → new ≡ declared_type source q (drop (at - 1) decls)
 declared_step source q ident decls at decl old new some within is text adds so_far =
-    rw (drop_before decls at decl some within is, ← text) (adds ∙ ap (λ b. cond b (Some decl.ty) old) (nat_list_eq_equiv.symm ident q) ∙ ap (λ o. cond (bytes_eq q ident) (Some decl.ty) o) so_far)
+    rw (item_before decls at decl some within is, ← text) (adds ∙ ap (λ b. cond b (Some decl.ty) old) (nat_list_eq_equiv.symm ident q) ∙ ap (λ o. cond (bytes_eq q ident) (Some decl.ty) o) so_far)

@@ -3,7 +3,6 @@ pub mod DeclaredLemmas
 pub mod RowLemmas
 pub mod ListLemmas
 pub mod Membership
-pub mod MentionLemmas
 pub mod MadeLemmas
 pub mod PartLemmas
 pub mod PlaceLemmas
@@ -12,7 +11,8 @@ pub mod DeclarationsHold
 pub mod UseLemmas
 pub mod NamesHold
 pub mod OperandsHold
-pub mod SmallLemmas
+pub mod Occurring
+pub mod SmallNumbers
 pub mod BlocksHold
 pub mod BoundsHold
 pub mod Sound

@@ -1,7 +1,7 @@
 -- What stands in a list.
-use Rattle.std.proofs.Common.{◌≡◌, ◌⊎◌, suc, Bool, true, false, List, [], ◌∷◌, ◌++◌, map, Contains, refl, sym, ap, subst, ◌∙◌, inl, inr, arith}
+use Rattle.std.proofs.Common.{◌≡◌, ◌⊎◌, suc, Bool, true, false, List, [], ◌∷◌, ◌++◌, map, Contains, Option, Some, None, refl, sym, ap, subst, ◌∙◌, inl, inr, arith}
 use Rattle.std.specs.Prelude.{◌||◌}
-use Rattle.std.specs.List.{flat_map, list_any, list_all}
+use Rattle.std.specs.List.{flat_map, filter_map, cons_option, list_any, list_all, AllByRecursion}
 use Rattle.std.proofs.lemmas.Bool.{and_parts, and_from, false≢true}
 use Rattle.std.proofs.lemmas.Grind.{flat_map-append}
 
@@ -55,7 +55,32 @@ pub from_flat : {X Y : Type 0} (f : X → List Y) (xs : List X) (y : Y) → Has 
 from_flat f [] y h = absurd h
 from_flat f (x ∷ xs) y h = elim (has_either (f x) (flat_map f xs) y h) [ inl l ↦ (x, inl refl, l) | inr r ↦ flat_later f x xs y (from_flat f xs y r) ]
 
+-- ---- in what a filter keeps
+
+with_later : {X : Type 0} (o : Option X) (xs : List X) (x : X) → Has xs x → Has (cons_option o xs) x
+with_later None xs x h = h
+with_later (Some y) xs x h = inr h
+
+pub has_said : {M X : Type 0} (says : M → Option X) (ms : List M) (m : M) (x : X) → Has ms m → says m ≡ Some x → Has (filter_map says ms) x
+has_said says [] m x h e = absurd h
+has_said says (n ∷ ms) m x (inl same) e = let here : says n ≡ Some x = ap says same ∙ e in subst (λ o. Has (cons_option o (filter_map says ms)) x) (sym here) (inl refl)
+has_said says (n ∷ ms) m x (inr h) e = with_later (says n) (filter_map says ms) x (has_said says ms m x h e)
+
+said_by : {M X : Type 0} (says : M → Option X) (n : M) (ms : List M) (x : X) (o : Option X) → says n ≡ o → (Has (filter_map says ms) x → (m : M) × Has ms m × (says m ≡ Some x)) → Has (cons_option o (filter_map says ms)) x → (m : M) × Has (n ∷ ms) m × (says m ≡ Some x)
+said_by says n ms x None is later h = let r = later h in (r.0, inr r.1, r.2)
+said_by says n ms x (Some y) is later (inl e) = (n, inl refl, is ∙ ap Some e)
+said_by says n ms x (Some y) is later (inr h) = let r = later h in (r.0, inr r.1, r.2)
+
+pub from_said : {M X : Type 0} (says : M → Option X) (ms : List M) (x : X) → Has (filter_map says ms) x → (m : M) × Has ms m × (says m ≡ Some x)
+from_said says [] x h = absurd h
+from_said says (n ∷ ms) x h = said_by says n ms x (says n) refl (from_said says ms x) h
+
 -- ---- tests
+
+pub each_has : {X : Type 0} (P : X → Type 0) (xs : List X) → AllByRecursion P xs → (x : X) → Has xs x → P x
+each_has P [] all x h = absurd h
+each_has P (y ∷ xs) all x (inl e) = subst P e all.0
+each_has P (y ∷ xs) all x (inr h) = each_has P xs all.1 x h
 
 pub all_from_has : {X : Type 0} (p : X → Bool) (xs : List X) → ((x : X) → Has xs x → p x ≡ true) → list_all p xs ≡ true
 all_from_has p [] h = refl

@@ -1,7 +1,7 @@
 -- The names of a function that is made hold.
-use Rattle.std.proofs.Common.{◌≡◌, ℕ, ◌<◌, Bool, true, false, cond, Option, Some, None, List, [], ◌∷◌, ◌++◌, map, refl, sym, ap, subst, ◌∙◌, arith, inl, inr}
+use Rattle.std.proofs.Common.{◌≡◌, ℕ, ◌<◌, Bool, true, false, cond, Option, Some, None, option_map, List, [], ◌∷◌, ◌++◌, map, refl, sym, ap, subst, ◌∙◌, arith, inl, inr}
 use Rattle.std.specs.Prelude.{◌==◌, ◌&&◌, ◌||◌, not, nat_lt}
-use Rattle.std.specs.List.{flat_map, list_any, list_all}
+use Rattle.std.specs.List.{flat_map, list_any, list_all, cons_option, filter_map}
 use Rattle.std.specs.Option.{option_or, unwrap_or}
 use Rattle.std.proofs.lemmas.Bool.{and_parts, and_from, eqb-true, false≢true}
 use Rattle.pm_wide.specs.Types.{Ty, bool_type}
@@ -15,23 +15,23 @@ use Rattle.gim_text.specs.declared.token.Span.{Span}
 use Rattle.gim_text.specs.declared.tree.DeclText.{DeclText}
 use Rattle.gim_text.specs.declared.tree.FunctionText.{FunctionText}
 use Rattle.gim_text.specs.Texts.{text_of, name_parts}
-use Rattle.gim_names.specs.declared.mention.Mention.{Mention}
-use Rattle.gim_names.specs.declared.mention.Mention.TheVariants.{Param, Local, Block, Assigned, Used, UsedDefault, Constant}
-use Rattle.gim_names.specs.Mentions.{mentions_of}
-use Rattle.gim_names.specs.Parts.{with_some, all_said, version_in, assigned_version, base_default}
+use Rattle.gim_text.specs.declared.occurrence.Occurrence.{Occurrence}
+use Rattle.gim_text.specs.declared.occurrence.Occurrence.TheVariants.{Parameter, Local, Block, Jump, Assigned, Used, Default, Constant}
+use Rattle.gim_text.specs.Occurrences.{occurrences_of}
+use Rattle.gim_names.specs.Parts.{version_in, assigned_version, base_default}
 use Rattle.gim_names.specs.Kept.{KeepsNames, locals_of, params_of, has_base, has_param, ident_text}
 use Rattle.gim_making.specs.declared.places.NamePlace.{NamePlace}
 use Rattle.gim_making.specs.Declarations.{Declarations, declarations_of, declared_type, type_by_base, type_by_parts, type_of_name, number_of, version_of_name, version_by_parts}
-use Rattle.gim_making.specs.Names.{AreNames, version_of, plain, default_at, names_of_decl, names_of_block, names_in, named_rows}
+use Rattle.gim_making.specs.Names.{AreNames, version_of, plain, default_at, name_place, names_in, named_rows}
 use Rattle.gim_making.specs.Standing.{made}
 use Rattle.gim_making.specs.Trees.{decl_of}
-use Rattle.gim_making.proofs.Membership.{Has, has_left, has_flat, from_flat, from_map, all_from_has, any_from_has, none_from_has}
-use Rattle.gim_making.proofs.MentionLemmas.{place_of_mention}
+use Rattle.gim_making.proofs.Membership.{Has, from_flat, from_map, has_said, from_said, all_from_has, any_from_has, none_from_has}
 use Rattle.gim_making.proofs.MadeLemmas.{ArePhisFirst, assigned_number, made_assigns}
+use Rattle.gim_making.proofs.Occurring.{local_occurs}
 use Rattle.gim_making.proofs.PartLemmas.{text_itself, same_text_is, parts_are, anonymous_has_parts, IsSmall, same_number, declared_some, declares, typed, some_is}
-use Rattle.gim_making.proofs.PlaceLemmas.{AreSmall, PlaceFacts, has_said, one_each, in_names, mentioned, place_facts, param_not_bare, row_at, one_row_at, row_place, place_row}
+use Rattle.gim_making.proofs.PlaceLemmas.{AreSmall, PlaceFacts, one_each, in_names, local_here, place_facts, param_not_bare, row_at, one_row_at, row_place, place_row}
 use Rattle.gim_making.proofs.NameRowLemmas.{above, row_is_name, name_is_row}
-use Rattle.gim_making.proofs.UseLemmas.{assigned_to, assigned_from, used_is_assigned, used_from, default_is_used}
+use Rattle.gim_making.proofs.UseLemmas.{assigned_at, assigned_to, assigned_from, used_is_assigned, used_from, default_is_used}
 
 -- ---- bases
 
@@ -117,17 +117,12 @@ bare_base text base digits h parts =
     let same : (base, digits) ≡ ([], found.0) = some_is (base, digits) ([], found.0) (sym parts ∙ found.1) in
     ap (λ (p : List ℕ × List ℕ). p.0) same
 
-local_name : (b : Bool) (at : Span) (place : NamePlace) → Has (cond b (plain at ∷ []) []) place → (b ≡ true) × (plain at ≡ place)
-local_name true at place (inl e) = (refl, e)
-local_name true at place (inr h) = absurd h
-local_name false at place h = absurd h
-
-default_stands : (source : List ℕ) (tree : FunctionText) (names : List NameRow) → KeepsNames source tree → AreSmall source tree → ArePhisFirst tree → (at : Span) → Has (mentions_of source tree) (UsedDefault at) → (base : List ℕ) → stands_as source tree names true (version_of_name source at) base
+default_stands : (source : List ℕ) (tree : FunctionText) (names : List NameRow) → KeepsNames source tree → AreSmall source tree → ArePhisFirst tree → (at : Span) → Has (occurrences_of tree) (Default at) → (base : List ℕ) → stands_as source tree names true (version_of_name source at) base
 default_stands source tree names kept small first at there base =
     let v = version_of_name source at in
-    let name = in_names source tree (UsedDefault at) (default_at at) there (inl refl) in
+    let name = in_names source tree (Default at) (default_at at) there refl in
     and_from (not (is_assigned (made source tree names) v)) (is_used (made source tree names) v)
-    (not_from (is_assigned (made source tree names) v) (λ h. let r = assigned_from source tree names first v h in apart source tree kept small r.0 at (in_names source tree (Assigned r.0) (plain r.0) r.1 (inl refl)) name r.2))
+    (not_from (is_assigned (made source tree names) v) (λ h. let r = assigned_from source tree names first v h in apart source tree kept small r.0 at (in_names source tree (Assigned r.0) (plain r.0) r.1 refl) name r.2))
     (default_is_used source tree names first at there)
 
 local_stands : (source : List ℕ) (tree : FunctionText) (names : List NameRow) → KeepsNames source tree → AreSmall source tree → ArePhisFirst tree → (at : Span) → Has (names_in source tree) (plain at) → (base : List ℕ) → base ≡ [] → stands_as source tree names false (version_of_name source at) base
@@ -138,37 +133,35 @@ local_stands source tree names kept small first at name base bare =
     let r = used_from source tree names first v used in
     elim r.1 [
       | inl plain_one ↦ ap (is_assigned f) (sym r.2) ∙ used_is_assigned source tree names kept first r.0 plain_one
-      | inr default_one ↦ absurd (apart source tree kept small at r.0 name (in_names source tree (UsedDefault r.0) (default_at r.0) default_one (inl refl)) (sym r.2))
+      | inr default_one ↦ absurd (apart source tree kept small at r.0 name (in_names source tree (Default r.0) (default_at r.0) default_one refl) (sym r.2))
     ])
 
-stands : (source : List ℕ) (tree : FunctionText) (names : List NameRow) → KeepsNames source tree → AreSmall source tree → ArePhisFirst tree → (m : Mention) (place : NamePlace) → Has (mentions_of source tree) m → Has (place_of_mention source m) place
+stands : (source : List ℕ) (tree : FunctionText) (names : List NameRow) → KeepsNames source tree → AreSmall source tree → ArePhisFirst tree → (o : Occurrence) (place : NamePlace) → Has (occurrences_of tree) o → name_place source o ≡ Some place
     → (base digits : List ℕ) → name_parts (text_of source place.at) ≡ Some (base, digits) → stands_as source tree names place.initial (version_of_name source place.at) base
-stands source tree names kept small first (Param at) place there h base digits parts = absurd h
-stands source tree names kept small first (Block at) place there h base digits parts = absurd h
-stands source tree names kept small first (Constant at fits) place there h base digits parts = absurd h
-stands source tree names kept small first (Assigned at) place there (inr h) base digits parts = absurd h
-stands source tree names kept small first (Used at) place there (inr h) base digits parts = absurd h
-stands source tree names kept small first (UsedDefault at) place there (inr h) base digits parts = absurd h
-stands source tree names kept small first (Assigned at) place there (inl e) base digits parts =
+stands source tree names kept small first (Parameter at) place there e base digits parts = absurd cc
+stands source tree names kept small first (Block at) place there e base digits parts = absurd cc
+stands source tree names kept small first (Jump at) place there e base digits parts = absurd cc
+stands source tree names kept small first (Constant literal) place there e base digits parts = absurd cc
+stands source tree names kept small first (Assigned at) place there e base digits parts =
     let f = made source tree names in
     let v = version_of_name source at in
-    subst (λ (p : NamePlace). stands_as source tree names p.initial (version_of_name source p.at) base) e (or_left (is_assigned f v) (same_text base [] && not (is_used f v)) (assigned_to source tree names first at there))
-stands source tree names kept small first (Used at) place there (inl e) base digits parts =
+    subst (λ (p : NamePlace). stands_as source tree names p.initial (version_of_name source p.at) base) (some_is (plain at) place e) (or_left (is_assigned f v) (same_text base [] && not (is_used f v)) (assigned_to source tree names first at there))
+stands source tree names kept small first (Used at) place there e base digits parts =
     let f = made source tree names in
     let v = version_of_name source at in
-    subst (λ (p : NamePlace). stands_as source tree names p.initial (version_of_name source p.at) base) e (or_left (is_assigned f v) (same_text base [] && not (is_used f v)) (used_is_assigned source tree names kept first at there))
-stands source tree names kept small first (UsedDefault at) place there (inl e) base digits parts =
-    subst (λ (p : NamePlace). stands_as source tree names p.initial (version_of_name source p.at) base) e (default_stands source tree names kept small first at there base)
-stands source tree names kept small first (Local at) place there h base digits parts =
-    let p = local_name (is_anonymous (text_of source at)) at place h in
-    let name = in_names source tree (Local at) place there h in
+    subst (λ (p : NamePlace). stands_as source tree names p.initial (version_of_name source p.at) base) (some_is (plain at) place e) (or_left (is_assigned f v) (same_text base [] && not (is_used f v)) (used_is_assigned source tree names kept first at there))
+stands source tree names kept small first (Default at) place there e base digits parts =
+    subst (λ (p : NamePlace). stands_as source tree names p.initial (version_of_name source p.at) base) (some_is (default_at at) place e) (default_stands source tree names kept small first at there base)
+stands source tree names kept small first (Local at) place there e base digits parts =
+    let p = local_here (is_anonymous (text_of source at)) at place e in
+    let name = in_names source tree (Local at) place there e in
     let bare : base ≡ [] = bare_base (text_of source place.at) base digits (ap (λ (q : NamePlace). is_anonymous (text_of source q.at)) (sym p.1) ∙ p.0) parts in
     subst (λ (q : NamePlace). stands_as source tree names q.initial (version_of_name source q.at) base) p.1 (local_stands source tree names kept small first at (subst (Has (names_in source tree)) (sym p.1) name) base bare)
 
 row_holds : (source : List ℕ) (tree : FunctionText) (names : List NameRow) → KeepsNames source tree → AreSmall source tree → ArePhisFirst tree → (place : NamePlace) → Has (names_in source tree) place → (f : PlaceFacts source tree place)
     → (base_holds (made source tree names) (row_at source tree place f) && row_stands (made source tree names) (row_at source tree place f)) ≡ true
 row_holds source tree names kept small first place name f =
-    let m = mentioned source tree place name in
+    let m = from_said (name_place source) (occurrences_of tree) place name in
     and_from (base_holds (made source tree names) (row_at source tree place f)) (row_stands (made source tree names) (row_at source tree place f))
     (base_by source tree names place.at place.initial f.base f.digits f.parts f.small f.declared f.param)
     (subst (λ v. stands_as source tree names place.initial v f.base) (version_is source tree place f) (stands source tree names kept small first m.0 place m.1 m.2 f.base f.digits f.parts))
@@ -207,7 +200,7 @@ defaults_agree source tree names kept small are a b has_a has_b initial_a initia
     let one : p.0.initial ≡ true = ap (λ (r : NameRow). r.initial) p.2.1 ∙ initial_a in
     let other : q.0.initial ≡ true = ap (λ (r : NameRow). r.initial) q.2.1 ∙ initial_b in
     let same : f.base ≡ g.base = ap (λ (r : NameRow). r.base) p.2.1 ∙ bases ∙ sym (ap (λ (r : NameRow). r.base) q.2.1) in
-    let pairs = all_said (base_default source) (mentions_of source tree) in
+    let pairs = filter_map (base_default source) (occurrences_of tree) in
     let digits : f.digits ≡ g.digits = one_each pairs g.base f.digits g.digits kept.defaults (subst (λ x. Has pairs (x, f.digits)) same (f.default_pair one)) (g.default_pair other) in
     sym (ap (λ (r : NameRow). r.version) p.2.1) ∙ ap number_of digits ∙ ap (λ (r : NameRow). r.version) q.2.1
 
@@ -217,16 +210,12 @@ decl_by : (b c : Bool) → (b ≡ true → c ≡ true) → (not b || c) ≡ true
 decl_by true c h = h refl
 decl_by false c h = refl
 
-decl_place : (b : Bool) (at : Span) → b ≡ true → Has (cond b (plain at ∷ []) []) (plain at)
-decl_place true at h = inl refl
-decl_place false at h = absurd (false≢true h)
-
 decl_has_row : (source : List ℕ) (tree : FunctionText) (names : List NameRow) → KeepsNames source tree → AreSmall source tree → AreNames (named_rows source tree) names → (decl : DeclText) → Has tree.decls decl → is_anonymous (text_of source decl.ident) ≡ true
     → list_any (λ (row : NameRow). same_text row.base [] && same_text (anonymous row.version) (text_of source decl.ident)) names ≡ true
 decl_has_row source tree names kept small are decl there h =
     let text = text_of source decl.ident in
     let place = plain decl.ident in
-    let name : Has (names_in source tree) place = has_left (flat_map (names_of_decl source) tree.decls) (flat_map names_of_block tree.blocks) place (has_flat (names_of_decl source) tree.decls decl place there (decl_place (is_anonymous text) decl.ident h)) in
+    let name : Has (names_in source tree) place = in_names source tree (Local decl.ident) place (local_occurs tree decl there) (ap (λ b. option_map plain (cond b (Some decl.ident) None)) h) in
     let f = place_facts source tree kept small place name in
     let row = row_at source tree place f in
     let bare : f.base ≡ [] = bare_base text f.base f.digits h f.parts in
@@ -237,39 +226,30 @@ decl_has_row source tree names kept small are decl there h =
 -- ---- assignments
 
 -- what is assigned here has small digits
-abbrev AssignsSmall : List ℕ → List Mention → Type 0
+abbrev AssignsSmall : List ℕ → List Occurrence → Type 0
 AssignsSmall source ms = (at : Span) → Has ms (Assigned at) → (digits : List ℕ) × (version_in (name_parts (text_of source at)) ≡ Some digits) × IsSmall digits × (version_of_name source at ≡ number_of digits)
 
-assigned_at : (source : List ℕ) (m : Mention) (y : ℕ) → Has (assigned_number source m) y → (at : Span) × (m ≡ Assigned at) × (version_of_name source at ≡ y)
-assigned_at source (Assigned at) y (inl e) = (at, refl, e)
-assigned_at source (Assigned at) y (inr h) = absurd h
-assigned_at source (Param at) y h = absurd h
-assigned_at source (Local at) y h = absurd h
-assigned_at source (Block at) y h = absurd h
-assigned_at source (Used at) y h = absurd h
-assigned_at source (UsedDefault at) y h = absurd h
-assigned_at source (Constant at fits) y h = absurd h
+said_first : {X : Type 0} (o : Option X) (x : X) (xs : List X) → o ≡ Some x → cons_option o xs ≡ x ∷ xs
+said_first o x xs e = ap (λ p. cons_option p xs) e
 
-said_first : {X : Type 0} (o : Option X) (x : X) (xs : List X) → o ≡ Some x → with_some o xs ≡ x ∷ xs
-said_first o x xs e = ap (λ p. with_some p xs) e
-
-distinct_numbers : (source : List ℕ) (ms : List Mention) → AssignsSmall source ms → all_distinct same_text (all_said (assigned_version source) ms) ≡ true → all_distinct ◌==◌ (flat_map (assigned_number source) ms) ≡ true
+distinct_numbers : (source : List ℕ) (ms : List Occurrence) → AssignsSmall source ms → all_distinct same_text (filter_map (assigned_version source) ms) ≡ true → all_distinct ◌==◌ (filter_map (assigned_number source) ms) ≡ true
 distinct_numbers source [] small h = refl
-distinct_numbers source (Param at ∷ ms) small h = distinct_numbers source ms (λ a there. small a (inr there)) h
+distinct_numbers source (Jump at ∷ ms) small h = distinct_numbers source ms (λ a there. small a (inr there)) h
+distinct_numbers source (Parameter at ∷ ms) small h = distinct_numbers source ms (λ a there. small a (inr there)) h
 distinct_numbers source (Local at ∷ ms) small h = distinct_numbers source ms (λ a there. small a (inr there)) h
 distinct_numbers source (Block at ∷ ms) small h = distinct_numbers source ms (λ a there. small a (inr there)) h
 distinct_numbers source (Used at ∷ ms) small h = distinct_numbers source ms (λ a there. small a (inr there)) h
-distinct_numbers source (UsedDefault at ∷ ms) small h = distinct_numbers source ms (λ a there. small a (inr there)) h
-distinct_numbers source (Constant at fits ∷ ms) small h = distinct_numbers source ms (λ a there. small a (inr there)) h
+distinct_numbers source (Default at ∷ ms) small h = distinct_numbers source ms (λ a there. small a (inr there)) h
+distinct_numbers source (Constant literal ∷ ms) small h = distinct_numbers source ms (λ a there. small a (inr there)) h
 distinct_numbers source (Assigned at ∷ ms) small h =
     let v = version_of_name source at in
-    let later = all_said (assigned_version source) ms in
-    let numbers = flat_map (assigned_number source) ms in
+    let later = filter_map (assigned_version source) ms in
+    let numbers = filter_map (assigned_number source) ms in
     let mine = small at (inl refl) in
     let digits = mine.0 in
     let p = and_parts (not (list_any (same_text digits) later)) (all_distinct same_text later) (ap (all_distinct same_text) (sym (said_first (version_in (name_parts (text_of source at))) digits later mine.1)) ∙ h) in
     let new : list_any (λ y. v == y) numbers ≡ false = none_from_has (λ y. v == y) numbers (λ y there equal.
-    let r = from_flat (assigned_number source) ms y there in
+    let r = from_said (assigned_number source) ms y there in
     let a = assigned_at source r.0 y r.2 in
     let has = subst (Has ms) a.1 r.1 in
     let other = small a.0 (inr has) in
@@ -278,9 +258,9 @@ distinct_numbers source (Assigned at ∷ ms) small h =
     false≢true (sym (ap not (any_from_has (same_text digits) later other.0 known (ap (same_text digits) (sym same) ∙ text_itself digits))) ∙ p.0)) in
     and_from (not (list_any (λ y. v == y) numbers)) (all_distinct ◌==◌ numbers) (ap not new) (distinct_numbers source ms (λ a there. small a (inr there)) p.1)
 
-assigns_small : (source : List ℕ) (tree : FunctionText) → KeepsNames source tree → AreSmall source tree → AssignsSmall source (mentions_of source tree)
+assigns_small : (source : List ℕ) (tree : FunctionText) → KeepsNames source tree → AreSmall source tree → AssignsSmall source (occurrences_of tree)
 assigns_small source tree kept small at there =
-    let f = place_facts source tree kept small (plain at) (in_names source tree (Assigned at) (plain at) there (inl refl)) in
+    let f = place_facts source tree kept small (plain at) (in_names source tree (Assigned at) (plain at) there refl) in
     (f.digits, ap version_in f.parts, f.small, version_is source tree (plain at) f)
 
 -- ---- the whole
@@ -300,6 +280,6 @@ names source tree rows kept small first are =
     let locals : list_all has_row decls ≡ true = all_from_has has_row decls (λ decl there.
     let d = from_map (decl_of source) tree.decls decl there in
     subst (λ (x : Decl). has_row x ≡ true) d.2 (decl_by (is_anonymous (text_of source d.0.ident)) (list_any (λ (row : NameRow). same_text row.base [] && same_text (anonymous row.version) (text_of source d.0.ident)) rows) (decl_has_row source tree rows kept small are d.0 d.1))) in
-    let once : all_distinct ◌==◌ (assigned f) ≡ true = ap (all_distinct ◌==◌) (made_assigns source tree rows first) ∙ distinct_numbers source (mentions_of source tree) (assigns_small source tree kept small) kept.assigned in
+    let once : all_distinct ◌==◌ (assigned f) ≡ true = ap (all_distinct ◌==◌) (made_assigns source tree rows first) ∙ distinct_numbers source (occurrences_of tree) (assigns_small source tree kept small) kept.assigned in
     and_from (((up && each) && distinct) && list_all has_row decls) (all_distinct ◌==◌ (assigned f))
     (and_from ((up && each) && distinct) (list_all has_row decls) (and_from (up && each) distinct (and_from up each are.rising rows_hold) (one_default rows are.rising (defaults_agree source tree rows kept small are))) locals) once

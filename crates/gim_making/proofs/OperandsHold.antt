@@ -27,27 +27,28 @@ use Rattle.gim_text.specs.declared.tree.LiteralText.{LiteralText}
 use Rattle.gim_text.specs.declared.tree.LiteralType.{LiteralType}
 use Rattle.gim_text.specs.declared.tree.LiteralType.TheVariants.{Plain, Unsigned, Long, UnsignedLong, Written}
 use Rattle.gim_text.specs.declared.tree.OperandText.{OperandText}
-use Rattle.gim_text.specs.declared.tree.OperandText.TheVariants.{Name, Default, Literal}
+use Rattle.gim_text.specs.declared.tree.OperandText.TheVariants as texts
 use Rattle.gim_text.specs.declared.tree.RightForm.{RightForm}
 use Rattle.gim_text.specs.declared.tree.RightForm.TheVariants.{Copy, Unary, Cast, Binary, Choice}
 use Rattle.gim_text.specs.Faults.{first_fault}
 use Rattle.gim_text.specs.Literals.{signed, literal_type, literal_word}
 use Rattle.gim_text.specs.Texts.{text_of, leading_digits}
-use Rattle.gim_names.specs.declared.mention.Mention.TheVariants.{Used, UsedDefault}
+use Rattle.gim_text.specs.declared.occurrence.Occurrence.TheVariants.{Assigned, Used, Default, Constant}
+use Rattle.gim_text.specs.Occurrences.{occurrences_of_item, occurrences_of}
 use Rattle.gim_names.specs.Kept.{KeepsNames}
 use Rattle.gim_making.specs.declared.places.NamePlace.{NamePlace}
 use Rattle.gim_making.specs.Declarations.{Declarations, declarations_of, type_of_name, number_of, version_of_name, version_by_parts}
-use Rattle.gim_making.specs.Names.{AreNames, first_of, plain, default_at, names_of_item, names_of_end, names_of_block, names_of_decl, names_in, named_rows}
+use Rattle.gim_making.specs.Names.{AreNames, first_of, plain, default_at, names_in, named_rows}
 use Rattle.gim_making.specs.Standing.{made}
 use Rattle.gim_making.specs.Trees.{no_word, operand_of, rhs_of, arg_of, phi_of, stmt_of, end_of, block_of}
 use Rattle.gim_making.specs.Types.{type_of_operand, form_fits, start_of, mismatch, place_of_arg, places_of_item, places_of_end, places_of_block, places_of_function}
-use Rattle.gim_making.specs.Written.{operand_is_written, type_is_written, texts_in, IsWritten}
+use Rattle.gim_making.specs.Written.{is_written, type_is_written, operands_in, IsWritten}
 use Rattle.gim_making.proofs.Membership.{Has, has_left, has_right, has_map, from_map, has_flat, from_flat, all_from_has, all_has}
 use Rattle.gim_making.proofs.MadeLemmas.{ArePhisFirst, made_operands}
+use Rattle.gim_making.proofs.Occurring.{in_item, operand_occurs}
 use Rattle.gim_making.proofs.PartLemmas.{type_itself}
 use Rattle.gim_making.proofs.PlaceLemmas.{AreSmall, in_names, place_facts, row_at, place_row}
 use Rattle.gim_making.proofs.NameRowLemmas.{found_row}
-use Rattle.gim_making.proofs.UseLemmas.{text_is_mentioned}
 
 -- ---- no fault
 
@@ -122,14 +123,14 @@ literal_is_word source literal h =
 
 -- ---- operands
 
-operand_of_tree : (source : List ℕ) (tree : FunctionText) (names : List NameRow) → IsWritten source tree → KeepsNames source tree → AreSmall source tree → AreNames (named_rows source tree) names → (a : OperandText) → Has (texts_in tree) a
+operand_of_tree : (source : List ℕ) (tree : FunctionText) (names : List NameRow) → IsWritten source tree → KeepsNames source tree → AreSmall source tree → AreNames (named_rows source tree) names → (a : OperandText) → Has (operands_in tree) a
     → operand_holds (made source tree names) (operand_of (declarations_of source tree) a) ≡ true
-operand_of_tree source tree names written kept small are (Name at) there =
-    name_holds source tree names kept small are (plain at) (in_names source tree (Used at) (plain at) (text_is_mentioned source tree (Name at) there) (inl refl))
-operand_of_tree source tree names written kept small are (Default at) there =
-    name_holds source tree names kept small are (default_at at) (in_names source tree (UsedDefault at) (default_at at) (text_is_mentioned source tree (Default at) there) (inl refl))
-operand_of_tree source tree names written kept small are (Literal literal) there =
-    literal_is_word source literal (all_has operand_is_written (texts_in tree) written.operands (Literal literal) there)
+operand_of_tree source tree names written kept small are (texts.Name at) there =
+    name_holds source tree names kept small are (plain at) (in_names source tree (Used at) (plain at) (operand_occurs tree (texts.Name at) there) refl)
+operand_of_tree source tree names written kept small are (texts.Default at) there =
+    name_holds source tree names kept small are (default_at at) (in_names source tree (Default at) (default_at at) (operand_occurs tree (texts.Default at) there) refl)
+operand_of_tree source tree names written kept small are (texts.Literal literal) there =
+    literal_is_word source literal (all_has (is_written source) (occurrences_of tree) written.occurrences (Constant literal) (operand_occurs tree (texts.Literal literal) there))
 
 operands_of_tree : (source : List ℕ) (tree : FunctionText) (names : List NameRow) → IsWritten source tree → KeepsNames source tree → AreSmall source tree → ArePhisFirst tree → AreNames (named_rows source tree) names
     → list_all (operand_holds (made source tree names)) (operands_of (made source tree names)) ≡ true
@@ -137,17 +138,15 @@ operands_of_tree source tree names written kept small first are =
     let f = made source tree names in
     let O = operand_of (declarations_of source tree) in
     ap (list_all (operand_holds f)) (made_operands source tree names first)
-    ∙ all_from_has (operand_holds f) (map O (texts_in tree)) (λ o there.
-    let a = from_map O (texts_in tree) o there in
+    ∙ all_from_has (operand_holds f) (map O (operands_in tree)) (λ o there.
+    let a = from_map O (operands_in tree) o there in
     subst (λ x. operand_holds f x ≡ true) a.2 (operand_of_tree source tree names written kept small are a.0 a.1))
 
 -- ---- phis, statements and ends
 
 -- the name that an item assigns stands in the tree
-assigned_name : (source : List ℕ) (tree : FunctionText) (block : BlockText) (item : ItemText) (place : NamePlace) → Has tree.blocks block → Has block.items item → Has (names_of_item item) place → Has (names_in source tree) place
-assigned_name source tree block item place in_tree in_block there =
-    has_right (flat_map (names_of_decl source) tree.decls) (flat_map names_of_block tree.blocks) place
-    (has_flat names_of_block tree.blocks block place in_tree (has_left (flat_map names_of_item block.items) (names_of_end block.end) place (has_flat names_of_item block.items item place in_block there)))
+assigned_name : (source : List ℕ) (tree : FunctionText) (block : BlockText) (item : ItemText) (name : Span) → Has tree.blocks block → Has block.items item → Has (occurrences_of_item item) (Assigned name) → Has (names_in source tree) (plain name)
+assigned_name source tree block item name in_tree in_block there = in_names source tree (Assigned name) (plain name) (in_item tree block item (Assigned name) in_tree in_block there) refl
 
 -- a place of an item or an end is one of the function
 place_in_block : (source : List ℕ) (tree : FunctionText) (block : BlockText) (o : Option GimpleFault) → first_fault (places_of_function source tree) ≡ None → Has tree.blocks block → Has (places_of_block (declarations_of source tree) tree.result block) o → o ≡ None
@@ -167,7 +166,7 @@ phi_of_tree source tree names kept small are e block in_tree (items.Phi name arg
     let known = declarations_of source tree in
     let f = made source tree names in
     let t = type_of_name known name in
-    let r = found source tree names kept small are (plain name) (assigned_name source tree block (items.Phi name args) (plain name) in_tree in_block (inl refl)) in
+    let r = found source tree names kept small are (plain name) (assigned_name source tree block (items.Phi name args) name in_tree in_block (inl refl)) in
     let each : list_all (λ (arg : ℕ × Operand). same_type (type_of arg.1) t) (map (arg_of known) args) ≡ true =
     all_from_has (λ (arg : ℕ × Operand). same_type (type_of arg.1) t) (map (arg_of known) args) (λ arg there.
     let a = from_map (arg_of known) args arg there in
@@ -193,7 +192,7 @@ stmt_of_tree source tree names kept small are e block in_tree (items.Stmt name r
     let f = made source tree names in
     let t = type_of_name known name in
     let rhs = rhs_of known right.form in
-    let r = found source tree names kept small are (plain name) (assigned_name source tree block (items.Stmt name right) (plain name) in_tree in_block (inl refl)) in
+    let r = found source tree names kept small are (plain name) (assigned_name source tree block (items.Stmt name right) name in_tree in_block (inl refl)) in
     let fits = fits_by (form_fits known t right.form) right.start (place_in_item source tree block (items.Stmt name right) (mismatch (form_fits known t right.form) right.start) e in_tree in_block (inl refl)) in
     subst (λ (x : Stmt). stmt_fits f x ≡ true) same
     (row_by (row_of f (version_of_name source name)) r.0 (λ (row : NameRow). rhs_fits row.ty rhs) r.1 (ap (λ u. rhs_fits u rhs) r.2 ∙ form_is_rhs known t right.form fits))

@@ -1,7 +1,7 @@
 -- What is known of each place of a name, where the rules on names are kept and versions are below the limit.
-use Rattle.std.proofs.Common.{◌≡◌, ◌⊎◌, ℕ, Bool, true, false, cond, Option, Some, None, List, [], ◌∷◌, ◌++◌, refl, sym, ap, subst, ◌∙◌, inl, inr}
+use Rattle.std.proofs.Common.{◌≡◌, ◌⊎◌, ℕ, Bool, true, false, cond, Option, Some, None, option_map, List, [], ◌∷◌, ◌++◌, refl, sym, ap, subst, ◌∙◌, inl, inr}
 use Rattle.std.specs.Prelude.{◌||◌, not}
-use Rattle.std.specs.List.{list_any}
+use Rattle.std.specs.List.{list_any, cons_option, filter_map}
 use Rattle.std.proofs.lemmas.Bool.{and_parts, and_from, false≢true}
 use Rattle.pm_wide.specs.Types.{Ty}
 use Rattle.gim_ast.specs.declared.function.NameRow.{NameRow}
@@ -10,40 +10,21 @@ use Rattle.gim_ast.specs.WellFormed.{same_text}
 use Rattle.gim_text.specs.declared.token.Span.{Span}
 use Rattle.gim_text.specs.declared.tree.FunctionText.{FunctionText}
 use Rattle.gim_text.specs.Texts.{text_of, name_parts}
-use Rattle.gim_names.specs.declared.mention.Mention.{Mention}
-use Rattle.gim_names.specs.declared.mention.Mention.TheVariants.{Param, Local, Block, Assigned, Used, UsedDefault, Constant}
-use Rattle.gim_names.specs.Mentions.{mentions_of}
-use Rattle.gim_names.specs.Parts.{with_some, all_said, version_in, turned, anonymous_parts, local_text, plain_version, default_version, version_base, base_default}
+use Rattle.gim_text.specs.declared.occurrence.Occurrence.{Occurrence}
+use Rattle.gim_text.specs.declared.occurrence.Occurrence.TheVariants.{Parameter, Local, Block, Jump, Assigned, Used, Default, Constant}
+use Rattle.gim_text.specs.Occurrences.{occurrences_of}
+use Rattle.gim_names.specs.Parts.{version_in, turned, anonymous_parts, local_text, plain_version, default_version, version_base, base_default}
 use Rattle.gim_names.specs.Rules.{has_other_second}
 use Rattle.gim_names.specs.Tables.{have_one_each}
 use Rattle.gim_names.specs.Kept.{KeepsNames, locals_of, params_of, assigned_of, has_base, has_param, is_declared}
 use Rattle.gim_names.proofs.Saying.{declares}
 use Rattle.gim_making.specs.declared.places.NamePlace.{NamePlace}
 use Rattle.gim_making.specs.Declarations.{declarations_of, type_by_parts, type_of_name, number_of}
-use Rattle.gim_making.specs.Names.{plain, default_at, names_in, rows_by_parts, rows_of_place, named_rows}
-use Rattle.gim_making.proofs.Membership.{Has, has_flat, from_flat, all_has, any_from_has}
-use Rattle.gim_making.proofs.MentionLemmas.{place_of_mention, names_are_mentioned}
-use Rattle.gim_making.proofs.PartLemmas.{text_itself, same_text_is, parts_are, anonymous_has_parts, IsSmall, same_number}
+use Rattle.gim_making.specs.Names.{plain, default_at, name_place, names_in, rows_by_parts, rows_of_place, named_rows}
+use Rattle.gim_making.proofs.Membership.{Has, has_flat, from_flat, has_said, from_said, all_has, any_from_has}
+use Rattle.gim_making.proofs.PartLemmas.{some_is, text_itself, same_text_is, parts_are, anonymous_has_parts, IsSmall, same_number}
 
--- ---- what a list says
-
-with_later : {X : Type 0} (o : Option X) (xs : List X) (x : X) → Has xs x → Has (with_some o xs) x
-with_later None xs x h = h
-with_later (Some y) xs x h = inr h
-
-pub has_said : {M X : Type 0} (says : M → Option X) (ms : List M) (m : M) (x : X) → Has ms m → says m ≡ Some x → Has (all_said says ms) x
-has_said says [] m x h e = absurd h
-has_said says (n ∷ ms) m x (inl same) e = let here : says n ≡ Some x = ap says same ∙ e in subst (λ o. Has (with_some o (all_said says ms)) x) (sym here) (inl refl)
-has_said says (n ∷ ms) m x (inr h) e = with_later (says n) (all_said says ms) x (has_said says ms m x h e)
-
-said_by : {M X : Type 0} (says : M → Option X) (n : M) (ms : List M) (x : X) (o : Option X) → says n ≡ o → (Has (all_said says ms) x → (m : M) × Has ms m × (says m ≡ Some x)) → Has (with_some o (all_said says ms)) x → (m : M) × Has (n ∷ ms) m × (says m ≡ Some x)
-said_by says n ms x None is later h = let r = later h in (r.0, inr r.1, r.2)
-said_by says n ms x (Some y) is later (inl e) = (n, inl refl, is ∙ ap Some e)
-said_by says n ms x (Some y) is later (inr h) = let r = later h in (r.0, inr r.1, r.2)
-
-pub from_said : {M X : Type 0} (says : M → Option X) (ms : List M) (x : X) → Has (all_said says ms) x → (m : M) × Has ms m × (says m ≡ Some x)
-from_said says [] x h = absurd h
-from_said says (n ∷ ms) x h = said_by says n ms x (says n) refl (from_said says ms x) h
+-- ---- pairs
 
 -- two pairs of one first part have one second part
 company : (k v w : List ℕ) (b : Bool) → same_text v w ≡ b → (has_other_second k v (k, w) ≡ true → ⊥) → v ≡ w
@@ -76,10 +57,10 @@ pub record PlaceFacts (source : List ℕ) (tree : FunctionText) (place : NamePla
   pub small : IsSmall digits
   pub declared : has_base (locals_of source tree) (params_of source tree) (text_of source place.at) (Some (base, digits)) ≡ true
   pub param : place.initial ≡ true → has_param (params_of source tree) (Some (base, digits)) ≡ true
-  pub pair : Has (all_said (version_base source) (mentions_of source tree)) (digits, base)
-  pub default : place.initial ≡ true → Has (all_said (default_version source) (mentions_of source tree)) digits
-  pub default_pair : place.initial ≡ true → Has (all_said (base_default source) (mentions_of source tree)) (base, digits)
-  pub written : place.initial ≡ false → (base ≡ []) ⊎ Has (all_said (plain_version source) (mentions_of source tree)) digits
+  pub pair : Has (filter_map (version_base source) (occurrences_of tree)) (digits, base)
+  pub default : place.initial ≡ true → Has (filter_map (default_version source) (occurrences_of tree)) digits
+  pub default_pair : place.initial ≡ true → Has (filter_map (base_default source) (occurrences_of tree)) (base, digits)
+  pub written : place.initial ≡ false → (base ≡ []) ⊎ Has (filter_map (plain_version source) (occurrences_of tree)) digits
 
 has_some : (locals params : List (List ℕ)) (text : List ℕ) (o : Option (List ℕ × List ℕ)) → has_base locals params text o ≡ true → (p : List ℕ × List ℕ) × (o ≡ Some p)
 has_some locals params text None h = absurd (false≢true h)
@@ -100,13 +81,13 @@ param_has_base locals params text (b ∷ base) digits h = or_later (list_any (sa
 pub param_not_bare : (params : List (List ℕ)) (base digits : List ℕ) → has_param params (Some (base, digits)) ≡ true → base ≡ [] → ⊥
 param_not_bare params base digits h bare = false≢true (ap (λ b. has_param params (Some (b, digits))) (sym bare) ∙ h)
 
--- the mention of a place is one of the places of names
-pub in_names : (source : List ℕ) (tree : FunctionText) (m : Mention) (place : NamePlace) → Has (mentions_of source tree) m → Has (place_of_mention source m) place → Has (names_in source tree) place
-in_names source tree m place there here = subst (λ l. Has l place) (names_are_mentioned source tree) (has_flat (place_of_mention source) (mentions_of source tree) m place there here)
+-- a name that occurs stands among the places of names
+pub in_names : (source : List ℕ) (tree : FunctionText) (o : Occurrence) (place : NamePlace) → Has (occurrences_of tree) o → name_place source o ≡ Some place → Has (names_in source tree) place
+in_names source tree o place there is = has_said (name_place source) (occurrences_of tree) o place there is
 
-local_facts : (source : List ℕ) (tree : FunctionText) → AreSmall source tree → (at : Span) → Has (mentions_of source tree) (Local at) → is_anonymous (text_of source at) ≡ true → Has (names_in source tree) (plain at) → PlaceFacts source tree (plain at)
+local_facts : (source : List ℕ) (tree : FunctionText) → AreSmall source tree → (at : Span) → Has (occurrences_of tree) (Local at) → is_anonymous (text_of source at) ≡ true → Has (names_in source tree) (plain at) → PlaceFacts source tree (plain at)
 local_facts source tree small at there anonymous name =
-    let ms = mentions_of source tree in
+    let ms = occurrences_of tree in
     let text = text_of source at in
     let found = anonymous_has_parts text anonymous in
     let local : Has (locals_of source tree) text = subst (λ l. Has l text) (declares source tree).locals (has_said (local_text source) ms (Local at) text there refl) in
@@ -124,11 +105,11 @@ local_facts source tree small at there anonymous name =
     }
 
 -- a name without the mark of a default definition, whose base is declared
-plain_facts : (source : List ℕ) (tree : FunctionText) → AreSmall source tree → (m : Mention) (at : Span) → Has (mentions_of source tree) m
+plain_facts : (source : List ℕ) (tree : FunctionText) → AreSmall source tree → (m : Occurrence) (at : Span) → Has (occurrences_of tree) m
     → version_base source m ≡ turned (name_parts (text_of source at)) → plain_version source m ≡ version_in (name_parts (text_of source at))
     → has_base (locals_of source tree) (params_of source tree) (text_of source at) (name_parts (text_of source at)) ≡ true → Has (names_in source tree) (plain at) → PlaceFacts source tree (plain at)
 plain_facts source tree small m at there pairs versions declared name =
-    let ms = mentions_of source tree in
+    let ms = occurrences_of tree in
     let text = text_of source at in
     let found = has_some (locals_of source tree) (params_of source tree) text (name_parts text) declared in
     let p = found.0 in
@@ -145,10 +126,10 @@ plain_facts source tree small m at there pairs versions declared name =
       written = λ e. inr (has_said (plain_version source) ms m p.1 there (versions ∙ ap version_in found.1));
     }
 
-default_facts : (source : List ℕ) (tree : FunctionText) → AreSmall source tree → (at : Span) → Has (mentions_of source tree) (UsedDefault at)
+default_facts : (source : List ℕ) (tree : FunctionText) → AreSmall source tree → (at : Span) → Has (occurrences_of tree) (Default at)
     → has_param (params_of source tree) (name_parts (text_of source at)) ≡ true → Has (names_in source tree) (default_at at) → PlaceFacts source tree (default_at at)
 default_facts source tree small at there declared name =
-    let ms = mentions_of source tree in
+    let ms = occurrences_of tree in
     let text = text_of source at in
     let found = param_some (params_of source tree) (name_parts text) declared in
     let p = found.0 in
@@ -160,45 +141,39 @@ default_facts source tree small at there declared name =
       small = small (default_at at) name p.0 p.1 found.1;
       declared = param_has_base (locals_of source tree) (params_of source tree) text p.0 p.1 param;
       param = λ e. param;
-      pair = has_said (version_base source) ms (UsedDefault at) (p.1, p.0) there (ap turned found.1);
-      default = λ e. has_said (default_version source) ms (UsedDefault at) p.1 there (ap version_in found.1);
-      default_pair = λ e. has_said (base_default source) ms (UsedDefault at) p there found.1;
+      pair = has_said (version_base source) ms (Default at) (p.1, p.0) there (ap turned found.1);
+      default = λ e. has_said (default_version source) ms (Default at) p.1 there (ap version_in found.1);
+      default_pair = λ e. has_said (base_default source) ms (Default at) p there found.1;
       written = λ e. absurd (false≢true (sym e));
     }
 
-local_here : (b : Bool) (at : Span) (place : NamePlace) → Has (cond b (plain at ∷ []) []) place → (b ≡ true) × (plain at ≡ place)
-local_here true at place (inl e) = (refl, e)
-local_here true at place (inr h) = absurd h
-local_here false at place h = absurd h
+pub local_here : (b : Bool) (at : Span) (place : NamePlace) → option_map plain (cond b (Some at) None) ≡ Some place → (b ≡ true) × (plain at ≡ place)
+local_here true at place e = (refl, some_is (plain at) place e)
+local_here false at place e = absurd cc
 
-mention_facts : (source : List ℕ) (tree : FunctionText) → KeepsNames source tree → AreSmall source tree → (m : Mention) (place : NamePlace) → Has (mentions_of source tree) m → Has (place_of_mention source m) place → PlaceFacts source tree place
-mention_facts source tree kept small (Param at) place there h = absurd h
-mention_facts source tree kept small (Block at) place there h = absurd h
-mention_facts source tree kept small (Constant at fits) place there h = absurd h
-mention_facts source tree kept small (Local at) place there h =
-    let p = local_here (is_anonymous (text_of source at)) at place h in
-    let name : Has (names_in source tree) (plain at) = in_names source tree (Local at) (plain at) there (subst (λ q. Has (place_of_mention source (Local at)) q) (sym p.1) h) in
+occurrence_facts : (source : List ℕ) (tree : FunctionText) → KeepsNames source tree → AreSmall source tree → (o : Occurrence) (place : NamePlace) → Has (occurrences_of tree) o → name_place source o ≡ Some place → PlaceFacts source tree place
+occurrence_facts source tree kept small (Parameter at) place there e = absurd cc
+occurrence_facts source tree kept small (Block at) place there e = absurd cc
+occurrence_facts source tree kept small (Jump at) place there e = absurd cc
+occurrence_facts source tree kept small (Constant literal) place there e = absurd cc
+occurrence_facts source tree kept small (Local at) place there e =
+    let p = local_here (is_anonymous (text_of source at)) at place e in
+    let name : Has (names_in source tree) (plain at) = in_names source tree (Local at) (plain at) there (e ∙ ap Some (sym p.1)) in
     subst (PlaceFacts source tree) p.1 (local_facts source tree small at there p.0 name)
-mention_facts source tree kept small (Assigned at) place there (inl e) =
-    subst (PlaceFacts source tree) e (plain_facts source tree small (Assigned at) at there refl refl
-    (all_has (is_declared source (locals_of source tree) (params_of source tree) (assigned_of source tree)) (mentions_of source tree) kept.names (Assigned at) there) (in_names source tree (Assigned at) (plain at) there (inl refl)))
-mention_facts source tree kept small (Assigned at) place there (inr h) = absurd h
-mention_facts source tree kept small (Used at) place there (inl e) =
-    let declared = all_has (is_declared source (locals_of source tree) (params_of source tree) (assigned_of source tree)) (mentions_of source tree) kept.names (Used at) there in
-    subst (PlaceFacts source tree) e (plain_facts source tree small (Used at) at there refl refl
-    (and_parts (has_base (locals_of source tree) (params_of source tree) (text_of source at) (name_parts (text_of source at))) (list_any (same_text (text_of source at)) (assigned_of source tree)) declared).0 (in_names source tree (Used at) (plain at) there (inl refl)))
-mention_facts source tree kept small (Used at) place there (inr h) = absurd h
-mention_facts source tree kept small (UsedDefault at) place there (inl e) =
-    subst (PlaceFacts source tree) e (default_facts source tree small at there
-    (all_has (is_declared source (locals_of source tree) (params_of source tree) (assigned_of source tree)) (mentions_of source tree) kept.names (UsedDefault at) there) (in_names source tree (UsedDefault at) (default_at at) there (inl refl)))
-mention_facts source tree kept small (UsedDefault at) place there (inr h) = absurd h
-
--- a place of a name is that of a mention
-pub mentioned : (source : List ℕ) (tree : FunctionText) (place : NamePlace) → Has (names_in source tree) place → (m : Mention) × Has (mentions_of source tree) m × Has (place_of_mention source m) place
-mentioned source tree place name = from_flat (place_of_mention source) (mentions_of source tree) place (subst (λ l. Has l place) (sym (names_are_mentioned source tree)) name)
+occurrence_facts source tree kept small (Assigned at) place there e =
+    let declared = all_has (is_declared source (locals_of source tree) (params_of source tree) (assigned_of source tree)) (occurrences_of tree) kept.names (Assigned at) there in
+    subst (PlaceFacts source tree) (some_is (plain at) place e) (plain_facts source tree small (Assigned at) at there refl refl declared (in_names source tree (Assigned at) (plain at) there refl))
+occurrence_facts source tree kept small (Used at) place there e =
+    let declared = all_has (is_declared source (locals_of source tree) (params_of source tree) (assigned_of source tree)) (occurrences_of tree) kept.names (Used at) there in
+    subst (PlaceFacts source tree) (some_is (plain at) place e) (plain_facts source tree small (Used at) at there refl refl
+    (and_parts (has_base (locals_of source tree) (params_of source tree) (text_of source at) (name_parts (text_of source at))) (list_any (same_text (text_of source at)) (assigned_of source tree)) declared).0
+    (in_names source tree (Used at) (plain at) there refl))
+occurrence_facts source tree kept small (Default at) place there e =
+    let declared = all_has (is_declared source (locals_of source tree) (params_of source tree) (assigned_of source tree)) (occurrences_of tree) kept.names (Default at) there in
+    subst (PlaceFacts source tree) (some_is (default_at at) place e) (default_facts source tree small at there declared (in_names source tree (Default at) (default_at at) there refl))
 
 pub place_facts : (source : List ℕ) (tree : FunctionText) → KeepsNames source tree → AreSmall source tree → (place : NamePlace) → Has (names_in source tree) place → PlaceFacts source tree place
-place_facts source tree kept small place name = let m = mentioned source tree place name in mention_facts source tree kept small m.0 place m.1 m.2
+place_facts source tree kept small place name = let r = from_said (name_place source) (occurrences_of tree) place name in occurrence_facts source tree kept small r.0 place r.1 r.2
 
 -- ---- two places of one version
 
@@ -207,8 +182,8 @@ marks_apart source tree kept p q f g digits bases initial plain_one =
     elim (g.written plain_one) [
       | inl bare ↦ param_not_bare (params_of source tree) f.base f.digits (f.param initial) (bases ∙ bare)
       | inr written ↦
-          let one : list_any (same_text g.digits) (all_said (plain_version source) (mentions_of source tree)) ≡ true = any_from_has (same_text g.digits) (all_said (plain_version source) (mentions_of source tree)) g.digits written (text_itself g.digits) in
-          let other : list_any (same_text g.digits) (all_said (default_version source) (mentions_of source tree)) ≡ true = any_from_has (same_text g.digits) (all_said (default_version source) (mentions_of source tree)) g.digits (subst (λ d. Has (all_said (default_version source) (mentions_of source tree)) d) digits (f.default initial)) (text_itself g.digits) in
+          let one : list_any (same_text g.digits) (filter_map (plain_version source) (occurrences_of tree)) ≡ true = any_from_has (same_text g.digits) (filter_map (plain_version source) (occurrences_of tree)) g.digits written (text_itself g.digits) in
+          let other : list_any (same_text g.digits) (filter_map (default_version source) (occurrences_of tree)) ≡ true = any_from_has (same_text g.digits) (filter_map (default_version source) (occurrences_of tree)) g.digits (subst (λ d. Has (filter_map (default_version source) (occurrences_of tree)) d) digits (f.default initial)) (text_itself g.digits) in
           false≢true (sym (kept.marks g.digits one) ∙ other)
     ]
 
@@ -227,7 +202,7 @@ rows_at_place source tree place f = ap (rows_by_parts (declarations_of source tr
 
 pub same_base : (source : List ℕ) (tree : FunctionText) → KeepsNames source tree → (p q : NamePlace) (f : PlaceFacts source tree p) (g : PlaceFacts source tree q) → f.digits ≡ g.digits → f.base ≡ g.base
 same_base source tree kept p q f g digits =
-    one_each (all_said (version_base source) (mentions_of source tree)) g.digits f.base g.base kept.bases (subst (λ d. Has (all_said (version_base source) (mentions_of source tree)) (d, f.base)) digits f.pair) g.pair
+    one_each (filter_map (version_base source) (occurrences_of tree)) g.digits f.base g.base kept.bases (subst (λ d. Has (filter_map (version_base source) (occurrences_of tree)) (d, f.base)) digits f.pair) g.pair
 
 pub one_row_at : (source : List ℕ) (tree : FunctionText) → KeepsNames source tree → (p q : NamePlace) (f : PlaceFacts source tree p) (g : PlaceFacts source tree q) → number_of f.digits ≡ number_of g.digits → row_at source tree p f ≡ row_at source tree q g
 one_row_at source tree kept p q f g numbers =

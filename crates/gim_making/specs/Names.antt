@@ -1,23 +1,14 @@
 -- The names of a function: where they stand in its text, and the row that each version has.
-use Rattle.std.specs.Prelude.{◌≡◌, ℕ, ◌==◌, true, false, IsTrue, Option, Some, None, List, [], ◌∷◌, ◌++◌, map, if◌then◌else◌}
-use Rattle.std.specs.List.{flat_map}
+use Rattle.std.specs.Prelude.{◌≡◌, ℕ, ◌==◌, Bool, true, false, IsTrue, Option, Some, None, option_map, List, [], ◌∷◌, map}
+use Rattle.std.specs.List.{flat_map, filter_map}
 use Rattle.gim_ast.specs.declared.function.NameRow.{NameRow}
 use Rattle.gim_ast.specs.Functions.{first_where}
-use Rattle.gim_ast.specs.Identifiers.{is_anonymous}
 use Rattle.gim_ast.specs.WellFormed.{rises}
 use Rattle.gim_text.specs.declared.token.Span.{Span}
-use Rattle.gim_text.specs.declared.tree.ArgText.{ArgText}
-use Rattle.gim_text.specs.declared.tree.BlockText.{BlockText}
-use Rattle.gim_text.specs.declared.tree.DeclText.{DeclText}
-use Rattle.gim_text.specs.declared.tree.EndText.{EndText}
-use Rattle.gim_text.specs.declared.tree.EndText.TheVariants.{Goto, If, Return}
 use Rattle.gim_text.specs.declared.tree.FunctionText.{FunctionText}
-use Rattle.gim_text.specs.declared.tree.ItemText.{ItemText}
-use Rattle.gim_text.specs.declared.tree.ItemText.TheVariants.{Phi, Stmt}
-use Rattle.gim_text.specs.declared.tree.OperandText.{OperandText}
-use Rattle.gim_text.specs.declared.tree.OperandText.TheVariants.{Name, Default, Literal}
-use Rattle.gim_text.specs.declared.tree.RightForm.{RightForm}
-use Rattle.gim_text.specs.declared.tree.RightForm.TheVariants.{Copy, Unary, Cast, Binary, Choice}
+use Rattle.gim_text.specs.declared.occurrence.Occurrence.{Occurrence}
+use Rattle.gim_text.specs.declared.occurrence.Occurrence.TheVariants.{Default}
+use Rattle.gim_text.specs.Occurrences.{name_at, occurrences_of}
 use Rattle.gim_text.specs.Texts.{text_of, name_parts}
 use Rattle.gim_making.specs.declared.places.NamePlace.{NamePlace}
 use Rattle.gim_making.specs.Declarations.{Declarations, type_of_name, number_of, declarations_of}
@@ -31,41 +22,17 @@ plain at = record { at = at; initial = false }
 abbrev pub default_at : Span → NamePlace
 default_at at = record { at = at; initial = true }
 
-abbrev pub names_of_operand : OperandText → List NamePlace
-names_of_operand (Name at) = plain at ∷ []
-names_of_operand (Default at) = default_at at ∷ []
-names_of_operand (Literal literal) = []
+abbrev pub is_default : Occurrence → Bool
+is_default (Default at) = true
+is_default occurrence = false
 
-abbrev pub names_of_arg : ArgText → List NamePlace
-names_of_arg arg = names_of_operand arg.operand
-
-abbrev pub names_of_form : RightForm → List NamePlace
-names_of_form (Copy a) = names_of_operand a
-names_of_form (Unary code a) = names_of_operand a
-names_of_form (Cast t a) = names_of_operand a
-names_of_form (Binary code a b) = names_of_operand a ++ names_of_operand b
-names_of_form (Choice a b c) = (names_of_operand a ++ names_of_operand b) ++ names_of_operand c
-
-abbrev pub names_of_item : ItemText → List NamePlace
-names_of_item (Phi name args) = plain name ∷ flat_map names_of_arg args
-names_of_item (Stmt name right) = plain name ∷ names_of_form right.form
-
-abbrev pub names_of_end : Option EndText → List NamePlace
-names_of_end None = []
-names_of_end (Some (Goto to)) = []
-names_of_end (Some (If code left right yes_to no_to)) = names_of_operand left ++ names_of_operand right
-names_of_end (Some (Return a)) = names_of_operand a
-
-abbrev pub names_of_block : BlockText → List NamePlace
-names_of_block block = flat_map names_of_item block.items ++ names_of_end block.end
-
--- the declaration of a local declares an anonymous name, or names no name
-abbrev pub names_of_decl : List ℕ → DeclText → List NamePlace
-names_of_decl source decl = if is_anonymous (text_of source decl.ident) then plain decl.ident ∷ [] else []
+-- the name that occurs
+abbrev pub name_place : List ℕ → Occurrence → Option NamePlace
+name_place source occurrence = option_map (λ at. record { at = at; initial = is_default occurrence }) (name_at source occurrence)
 
 -- where names stand in the text of a function: anonymous ones in declarations, and all in phis, statements and ends
 abbrev pub names_in : List ℕ → FunctionText → List NamePlace
-names_in source tree = flat_map (names_of_decl source) tree.decls ++ flat_map names_of_block tree.blocks
+names_in source tree = filter_map (name_place source) (occurrences_of tree)
 
 -- ---- rows
 

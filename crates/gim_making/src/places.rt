@@ -1,14 +1,10 @@
 //! Where names stand in the text of a function.
 
-ghost use Rattle.std.specs.Prelude.{◌≡◌, [], ◌∷◌, ◌++◌, IfOk, OnOk};
-ghost use Rattle.std.specs.List.{flat_map};
-ghost use Rattle.gim_ast.specs.Identifiers.{is_anonymous};
-ghost use Rattle.gim_making.specs.Names.{names_in, names_of_arg, names_of_block, names_of_decl, names_of_end, names_of_form, names_of_item, names_of_operand, plain};
+ghost use Rattle.std.specs.Prelude.{◌≡◌, IfOk};
+ghost use Rattle.std.specs.List.{filter_map};
+ghost use Rattle.gim_making.specs.Names.{is_default, name_place, names_in};
 
-use gim_text::{
-    ArgText, BlockText, DeclText, EndText, FunctionText, ItemText, OperandText, RightForm, Span,
-    is_number_text, text,
-};
+use gim_text::{FunctionText, Occurrence, Span, name_at, occurrences};
 use pm_ops::OutOfMemory;
 use std::alloc::Global;
 
@@ -20,117 +16,41 @@ pub struct NamePlace {
     pub initial: bool,
 }
 
-/// Whether the text is `_` and a number.
-fn is_anonymous(text: &[u8]) -> bool
-    ensures { result ≡ is_anonymous text.now }
+/// Whether it is a name with `(D)`.
+fn is_default(occurrence: &Occurrence) -> bool
+    ensures { result ≡ is_default occurrence.now }
 {
-    match text {
-        [] => false,
-        [first, rest @ ..] => *first == b'_' && is_number_text(rest),
+    match occurrence {
+        Occurrence::Default(_) => true,
+        _ => false,
     }
 }
 
-fn push_plain(places: &mut Vec<NamePlace>, at: Span) -> Result<(), OutOfMemory>
-    ensures { OnOk result (places.new.items ≡ places.old.items ++ plain at ∷ []) }
+/// The name that occurs.
+fn name_place(source: &[u8], occurrence: &Occurrence) -> Option<NamePlace>
+    ensures { result ≡ name_place source.now occurrence.now }
 {
-    places.push(NamePlace { at, initial: false })?;
-    Ok(())
-}
-
-fn push_operand(places: &mut Vec<NamePlace>, operand: &OperandText) -> Result<(), OutOfMemory>
-    ensures { OnOk result (places.new.items ≡ places.old.items ++ names_of_operand operand.now) }
-{
-    match operand {
-        OperandText::Name(at) => push_plain(places, *at)?,
-        OperandText::Default(at) => places.push(NamePlace {
-            at: *at,
-            initial: true,
-        })?,
-        OperandText::Literal(_) => {}
-    }
-    Ok(())
-}
-
-fn push_args(places: &mut Vec<NamePlace>, args: &[ArgText]) -> Result<(), OutOfMemory>
-    ensures { OnOk result (places.new.items ≡ places.old.items ++ flat_map names_of_arg args.now) }
-{
-    for arg in args {
-        push_operand(places, &arg.operand)?;
-    }
-    Ok(())
-}
-
-fn push_form(places: &mut Vec<NamePlace>, form: &RightForm) -> Result<(), OutOfMemory>
-    ensures { OnOk result (places.new.items ≡ places.old.items ++ names_of_form form.now) }
-{
-    match form {
-        RightForm::Copy(a) | RightForm::Unary(_, a) | RightForm::Cast(_, a) => {
-            push_operand(places, a)
-        }
-        RightForm::Binary(_, a, b) => {
-            push_operand(places, a)?;
-            push_operand(places, b)
-        }
-        RightForm::Choice(a, b, c) => {
-            push_operand(places, a)?;
-            push_operand(places, b)?;
-            push_operand(places, c)
-        }
+    match name_at(source, occurrence) {
+        Some(at) => Some(NamePlace {
+            at,
+            initial: is_default(occurrence),
+        }),
+        None => None,
     }
 }
 
-fn push_item(places: &mut Vec<NamePlace>, item: &ItemText) -> Result<(), OutOfMemory>
-    ensures { OnOk result (places.new.items ≡ places.old.items ++ names_of_item item.now) }
-{
-    match item {
-        ItemText::Phi(name, args) => {
-            push_plain(places, *name)?;
-            push_args(places, args.as_slice())
-        }
-        ItemText::Stmt(name, right) => {
-            push_plain(places, *name)?;
-            push_form(places, &right.form)
-        }
-    }
-}
-
-fn push_items(places: &mut Vec<NamePlace>, items: &[ItemText]) -> Result<(), OutOfMemory>
-    ensures { OnOk result (places.new.items ≡ places.old.items ++ flat_map names_of_item items.now) }
-{
-    for item in items {
-        push_item(places, item)?;
-    }
-    Ok(())
-}
-
-fn push_end(places: &mut Vec<NamePlace>, end: &Option<EndText>) -> Result<(), OutOfMemory>
-    ensures { OnOk result (places.new.items ≡ places.old.items ++ names_of_end end.now) }
-{
-    match end {
-        Some(EndText::If(_, left, right, _, _)) => {
-            push_operand(places, left)?;
-            push_operand(places, right)
-        }
-        Some(EndText::Return(a)) => push_operand(places, a),
-        Some(EndText::Goto(_)) | None => Ok(()),
-    }
-}
-
-fn push_block(places: &mut Vec<NamePlace>, block: &BlockText) -> Result<(), OutOfMemory>
-    ensures { OnOk result (places.new.items ≡ places.old.items ++ names_of_block block.now) }
-{
-    push_items(places, block.items.as_slice())?;
-    push_end(places, &block.end)
-}
-
-/// The declarations of anonymous names.
-fn declared(alloc: Global, source: &[u8], decls: &[DeclText]) -> Result<Vec<NamePlace>, OutOfMemory>
-    ensures { IfOk result (λ places. places.items ≡ flat_map (names_of_decl source.now) decls.now) }
+/// The names among what occurs.
+fn names_among(
+    alloc: Global,
+    source: &[u8],
+    occurrences: &[Occurrence],
+) -> Result<Vec<NamePlace>, OutOfMemory>
+    ensures { IfOk result (λ places. places.items ≡ filter_map (name_place source.now) occurrences.now) }
 {
     let mut places = Vec::new(alloc);
-    for decl in decls {
-        if is_anonymous(text(source, decl.ident)) {
-            push_plain(&mut places, decl.ident)?;
+    for occurrence in occurrences {
+        if let Some(place) = name_place(source, occurrence) {
+            places.push(place)?;
         }
     }
     Ok(places)
@@ -144,9 +64,6 @@ pub(crate) fn names_in(
 ) -> Result<Vec<NamePlace>, OutOfMemory>
     ensures { IfOk result (λ places. places.items ≡ names_in source.now tree.now) }
 {
-    let mut places = declared(alloc, source, tree.decls.as_slice())?;
-    for block in tree.blocks.as_slice() {
-        push_block(&mut places, block)?;
-    }
-    Ok(places)
+    let occurrences = occurrences(alloc, tree)?;
+    names_among(alloc, source, occurrences.as_slice())
 }
