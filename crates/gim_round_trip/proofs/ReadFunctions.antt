@@ -23,8 +23,8 @@ use Rattle.gim_making.specs.Names.{AreNames, version_of, named_rows}
 use Rattle.gim_making.specs.Standing.{StandsFor, made}
 use Rattle.gim_making.specs.Trees.{block_of}
 use Rattle.gim_making.proofs.BoundsHold.{version_digits, row_digits, all_by, few_names}
-use Rattle.gim_making.proofs.Membership.{has_contains, from_map, all_from_has}
-use Rattle.gim_making.proofs.SmallLemmas.{each_has, are_small}
+use Rattle.gim_making.proofs.Membership.{has_contains, from_map, all_from_has, each_has}
+use Rattle.gim_making.proofs.SmallNumbers.{are_small}
 use Rattle.gim_making.proofs.Sound.{sound_files}
 use Rattle.gim_reader.specs.Files.{file_limit, IsFile}
 use Rattle.gim_reader.proofs.ReaderLemmas.{sound}

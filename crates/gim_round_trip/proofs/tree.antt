@@ -1,8 +1,8 @@
 -- What a tree that writes a function says of its parts, and that it stands for this function.
 pub mod DistinctTexts
+pub mod Filters
 pub mod FunctionParts
 pub mod Identifiers
-pub mod Kept
 pub mod KnownNames
 pub mod Occurrences
 pub mod OccurringTexts

@@ -6,9 +6,8 @@ use Rattle.std.proofs.lemmas.Bool.{and_parts, or_parts, or_from, not-true, false
 use Rattle.gim_ast.specs.WellFormed.{same_text, all_distinct}
 use Rattle.gim_names.specs.Rules.{stands, differs, has_other_second}
 use Rattle.gim_names.proofs.TableLemmas.{same_text_symm}
-use Rattle.gim_making.proofs.Membership.{Has, none_from_has}
+use Rattle.gim_making.proofs.Membership.{Has, none_from_has, has_said, from_said}
 use Rattle.gim_making.proofs.PartLemmas.{text_itself, same_text_is}
-use Rattle.gim_round_trip.proofs.tree.Kept.{has_kept, from_kept}
 
 -- the rule is broken at no element
 abbrev pub NeverBy : {X : Type 0} → (List X → X → Bool) → List X → List X → Type 0
@@ -79,8 +78,8 @@ never_both one other all apart = never_among (λ b m. stands (other m) (filter_m
   by before m within there None is = refl
   by before m within there (Some y) is =
       none_from_has (same_text y) (filter_map one before) (λ x said same.
-      let n = from_kept one before x said in
-      apart x y (has_kept one all n.0 x (within n.0 n.1) n.2) (has_kept other all m y there is) (same_text_is y x same))
+      let n = from_said one before x said in
+      apart x y (has_said one all n.0 x (within n.0 n.1) n.2) (has_said other all m y there is) (same_text_is y x same))
 
 -- pairs of one first part have one second part
 pub never_differs : {M : Type 0} (says : M → Option (List ℕ × List ℕ)) (all : List M) → ((p q : List ℕ × List ℕ) → Has (filter_map says all) p → Has (filter_map says all) q → p.0 ≡ q.0 → p.1 ≡ q.1)
@@ -95,5 +94,5 @@ never_differs says all agree = never_among (λ b m. differs (says m) (filter_map
   by before m within there None is = refl
   by before m within there (Some p) is =
       none_from_has (has_other_second p.0 p.1) (filter_map says before) (λ q said other.
-      let n = from_kept says before q said in
-      alike p q (agree p q (has_kept says all m p there is) (has_kept says all n.0 q (within n.0 n.1) n.2)) other)
+      let n = from_said says before q said in
+      alike p q (agree p q (has_said says all m p there is) (has_said says all n.0 q (within n.0 n.1) n.2)) other)

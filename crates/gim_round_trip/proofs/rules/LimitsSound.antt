@@ -22,12 +22,12 @@ use Rattle.gim_names.specs.Parts.{block_number}
 use Rattle.gim_shape.specs.Blocks.{is_among}
 use Rattle.gim_shape.specs.Limits.{version_of, version_at, digits_at, is_above, is_any_above, blocks_among, versions_of, different, is_name_too_many, is_block_too_many, is_too_large, large_faults, function_limit_faults, limits_fault}
 use Rattle.gim_making.specs.Names.{version_of as row_version}
-use Rattle.gim_making.proofs.Membership.{Has, has_map, any_from_has, all_from_has}
+use Rattle.gim_making.proofs.Membership.{Has, has_map, any_from_has, all_from_has, from_said}
 use Rattle.gim_making.proofs.PartLemmas.{some_is, text_itself}
 use Rattle.gim_round_trip.proofs.rules.DifferentTexts.{few_different}
 use Rattle.gim_round_trip.proofs.rules.KeptRules.{NeverBy, never_either, never_among, never_each}
 use Rattle.gim_round_trip.proofs.rules.PlacesWithoutFault.{none_of_each}
-use Rattle.gim_round_trip.proofs.tree.Kept.{from_kept, images_kept}
+use Rattle.gim_round_trip.proofs.tree.Filters.{images_kept}
 use Rattle.gim_round_trip.proofs.tree.OccurringTexts.{numbers_said}
 use Rattle.gim_round_trip.proofs.tree.PairedLists.{beside_first}
 use Rattle.gim_round_trip.proofs.tree.WhatOccurs.{OccurrenceIs, occurrence_is, name_of}
@@ -93,7 +93,7 @@ module _ (source : List ℕ) (tree : FunctionText) (f : Function) (w : WritesWel
   versions_are_known : (before : List Occurrence) → Within before → list_all (is_among versions_known) (versions_of source before) ≡ true
   unfolding Within
   versions_are_known before within = all_from_has (is_among versions_known) (versions_of source before) (λ digits there.
-      let o = from_kept (version_at source) before digits there in
+      let o = from_said (version_at source) before digits there in
       let row = version_is o.0 digits (occurrence_is source tree f w o.0 (within o.0 o.1)) o.2 in
       ap (is_among versions_known) row.3 ∙ known_version row.0 row.1)
 

@@ -18,12 +18,11 @@ use Rattle.gim_text.specs.Texts.{text_of, name_parts}
 use Rattle.gim_names.specs.Parts.{version_in, turned, anonymous_parts, declared_text, block_number, assigned_version, plain_version, default_version, version_base, base_default}
 use Rattle.gim_names.specs.Rules.{stands, is_declared_again, is_assigned_again, has_other_base, has_other_mark, has_other_default, is_repeated, is_marked_otherwise, is_contradicted, is_redefined}
 use Rattle.gim_making.specs.Names.{is_default}
-use Rattle.gim_making.proofs.Membership.{Has, any_from_has, has_flat}
+use Rattle.gim_making.proofs.Membership.{Has, any_from_has, has_flat, from_said}
 use Rattle.gim_making.proofs.NameRowLemmas.{one_of_version}
 use Rattle.gim_making.proofs.PartLemmas.{some_is, text_itself, bare_is_anonymous}
 use Rattle.gim_round_trip.proofs.rules.KeptRules.{NeverBy, never_either, never_twice, never_both, never_differs}
 use Rattle.gim_round_trip.proofs.tree.DistinctTexts.{one_of}
-use Rattle.gim_round_trip.proofs.tree.Kept.{from_kept}
 use Rattle.gim_round_trip.proofs.tree.OccurringTexts.{declared_said, numbers_said, versions_said}
 use Rattle.gim_round_trip.proofs.tree.Rows.{of_names, version_small, name_facts}
 use Rattle.gim_round_trip.proofs.tree.SmallNumbers.{AreSmallNumbers, small_decimal, distinct_decimals, numbers_small}
@@ -78,7 +77,7 @@ module _ (source : List ℕ) (tree : FunctionText) (f : Function) (w : WritesWel
 
   pair_said : (p : List ℕ × List ℕ) → Has (filter_map (version_base source) (occurrences_of tree)) p → (row : NameRow) × Has f.names row × (p ≡ (decimal row.version, row.base))
   pair_said p there =
-      let o = from_kept (version_base source) (occurrences_of tree) p there in
+      let o = from_said (version_base source) (occurrences_of tree) p there in
       let place = pair_place source o.0 p o.2 in
       let name = named o.0 place.0 o.1 place.1 in
       (name.0, name.1.name.in_names, some_is p (decimal name.0.version, name.0.base) (sym place.2 ∙ ap turned name.1.name.parts))
@@ -90,7 +89,7 @@ module _ (source : List ℕ) (tree : FunctionText) (f : Function) (w : WritesWel
   plain_said : (x : List ℕ) → Has (filter_map (plain_version source) (occurrences_of tree)) x → IsVersion false x
   unfolding IsVersion
   plain_said x there =
-      let o = from_kept (plain_version source) (occurrences_of tree) x there in
+      let o = from_said (plain_version source) (occurrences_of tree) x there in
       let place = plain_place source o.0 x o.2 in
       let name = named o.0 place.0 o.1 place.1 in
       (name.0, name.1.name.in_names, sym name.1.mark ∙ place.3, some_is x (decimal name.0.version) (sym place.2 ∙ ap version_in name.1.name.parts))
@@ -98,14 +97,14 @@ module _ (source : List ℕ) (tree : FunctionText) (f : Function) (w : WritesWel
   marked_said : (x : List ℕ) → Has (filter_map (default_version source) (occurrences_of tree)) x → IsVersion true x
   unfolding IsVersion
   marked_said x there =
-      let o = from_kept (default_version source) (occurrences_of tree) x there in
+      let o = from_said (default_version source) (occurrences_of tree) x there in
       let place = marked_place source o.0 x o.2 in
       let name = named o.0 place.0 o.1 place.1 in
       (name.0, name.1.name.in_names, sym name.1.mark ∙ place.3, some_is x (decimal name.0.version) (sym place.2 ∙ ap version_in name.1.name.parts))
 
   default_said : (p : List ℕ × List ℕ) → Has (filter_map (base_default source) (occurrences_of tree)) p → (row : NameRow) × Has f.names row × (row.initial ≡ true) × (p ≡ (row.base, decimal row.version))
   default_said p there =
-      let o = from_kept (base_default source) (occurrences_of tree) p there in
+      let o = from_said (base_default source) (occurrences_of tree) p there in
       let place = default_place source o.0 p o.2 in
       let name = named o.0 place.0 o.1 place.1 in
       (name.0, name.1.name.in_names, sym name.1.mark ∙ place.3, some_is p (name.0.base, decimal name.0.version) (sym place.2 ∙ name.1.name.parts))

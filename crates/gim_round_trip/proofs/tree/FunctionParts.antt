@@ -14,8 +14,7 @@ use Rattle.gim_ast.specs.declared.function.End.{End}
 use Rattle.gim_ast.specs.Functions.{operands_of, operands_of_stmt, operands_of_end, assigned, targets_of}
 use Rattle.gim_ast.specs.WellFormed.{numbers_of, phi_blocks}
 use Rattle.gim_text.proofs.OccurrenceLemmas.{filter_of_map, filter_of_flat, each_says, none_says}
-use Rattle.gim_making.proofs.Membership.{Has}
-use Rattle.gim_round_trip.proofs.tree.Kept.{has_kept, from_kept}
+use Rattle.gim_making.proofs.Membership.{Has, has_said, from_said}
 
 pub data Part : Type 0 where
   parameter : Decl → Part
@@ -113,16 +112,16 @@ module _ (f : Function) where
   PartIs (reads a) = Has (operands_of f) a
 
   pub part_is : (part : Part) → Has (parts_of f) part → PartIs part
-  part_is (parameter decl) there = subst (λ l. Has l decl) params_are (has_kept a_parameter (parts_of f) (parameter decl) decl there refl)
-  part_is (local decl) there = subst (λ l. Has l decl) locals_are (has_kept a_local (parts_of f) (local decl) decl there refl)
-  part_is (head n) there = subst (λ l. Has l n) heads_are (has_kept a_head (parts_of f) (head n) n there refl)
-  part_is (jump n) there = subst (λ l. Has l n) jumps_are (has_kept a_jump (parts_of f) (jump n) n there refl)
-  part_is (assigns x) there = subst (λ l. Has l x) names_are (has_kept a_name (parts_of f) (assigns x) x there refl)
-  part_is (reads a) there = subst (λ l. Has l a) operands_are (has_kept an_operand (parts_of f) (reads a) a there refl)
+  part_is (parameter decl) there = subst (λ l. Has l decl) params_are (has_said a_parameter (parts_of f) (parameter decl) decl there refl)
+  part_is (local decl) there = subst (λ l. Has l decl) locals_are (has_said a_local (parts_of f) (local decl) decl there refl)
+  part_is (head n) there = subst (λ l. Has l n) heads_are (has_said a_head (parts_of f) (head n) n there refl)
+  part_is (jump n) there = subst (λ l. Has l n) jumps_are (has_said a_jump (parts_of f) (jump n) n there refl)
+  part_is (assigns x) there = subst (λ l. Has l x) names_are (has_said a_name (parts_of f) (assigns x) x there refl)
+  part_is (reads a) there = subst (λ l. Has l a) operands_are (has_said an_operand (parts_of f) (reads a) a there refl)
 
   is_there : {X : Type 0} (picks : Part → Option X) (v : X → Part) → ((part : Part) (x : X) → picks part ≡ Some x → part ≡ v x) → (xs : List X) → filter_map picks (parts_of f) ≡ xs → (x : X) → Has xs x → Has (parts_of f) (v x)
   is_there picks v only xs are x there =
-      let part = from_kept picks (parts_of f) x (subst (λ l. Has l x) (sym are) there) in
+      let part = from_said picks (parts_of f) x (subst (λ l. Has l x) (sym are) there) in
       subst (Has (parts_of f)) (only part.0 x part.2) part.1
 
   pub local_there : (decl : Decl) → Has f.decls decl → Has (parts_of f) (local decl)

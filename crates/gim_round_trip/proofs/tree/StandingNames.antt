@@ -13,10 +13,9 @@ use Rattle.gim_text.specs.Occurrences.{occurrences_of, name_at}
 use Rattle.gim_making.specs.declared.places.NamePlace.{NamePlace}
 use Rattle.gim_making.specs.Declarations.{Declarations, declarations_of, type_of_name, number_of}
 use Rattle.gim_making.specs.Names.{AreNames, is_default, name_place, names_in, first_of, version_of, rows_by_parts, rows_of_place, named_rows}
-use Rattle.gim_making.proofs.Membership.{Has, has_flat, from_flat}
+use Rattle.gim_making.proofs.Membership.{Has, has_flat, from_flat, has_said, from_said}
 use Rattle.gim_making.proofs.NameRowLemmas.{first_of_here, first_of_in, one_of_version}
 use Rattle.gim_making.proofs.RowLemmas.{first_of_has}
-use Rattle.gim_round_trip.proofs.tree.Kept.{has_kept, from_kept}
 use Rattle.gim_round_trip.proofs.tree.KnownNames.{known_name}
 use Rattle.gim_round_trip.proofs.tree.Rows.{of_names, row_found}
 use Rattle.gim_round_trip.proofs.tree.SmallNumbers.{number_of_decimal}
@@ -66,7 +65,7 @@ module _ (source : List ℕ) (tree : FunctionText) (f : Function) (w : WritesWel
   row_is_named : (row : NameRow) → Has (named_rows source tree) row → Has f.names row
   row_is_named row there =
       let place = from_flat (rows_of_place known) (names_in source tree) row there in
-      let o = from_kept (name_place source) (occurrences_of tree) place.0 place.1 in
+      let o = from_said (name_place source) (occurrences_of tree) place.0 place.1 in
       by o.0 o.1 place.0 place.2 (name_at source o.0) refl o.2 where
         only : (one : NameRow) → Has (one ∷ []) row → Has f.names one → Has f.names row
         only one (inl e) named = subst (Has f.names) e named
@@ -83,7 +82,7 @@ module _ (source : List ℕ) (tree : FunctionText) (f : Function) (w : WritesWel
   name_has_row row named =
       let o = row_occurs source tree f w row named in
       let place = place_at o.0 o.2 in
-      has_flat (rows_of_place known) (names_in source tree) place row (has_kept (name_place source) (occurrences_of tree) o.0 place o.1 (ap (option_map (place_at o.0)) o.3.place))
+      has_flat (rows_of_place known) (names_in source tree) place row (has_said (name_place source) (occurrences_of tree) o.0 place o.1 (ap (option_map (place_at o.0)) o.3.place))
       (subst (λ l. Has l row) (sym (place_rows o.0 o.2 row o.3)) (inl refl))
 
   pub names_stand : AreNames (named_rows source tree) f.names
