@@ -7,8 +7,8 @@
     b function
   }
 }
-# GCC wants a definition of each name that is declared without a base, so those that nothing uses go:
-# a declaration with a use behind it is marked, and those without a mark are dropped.
+# GCC wants a definition of each name that is declared without a base, so those that nothing uses
+# go: a declaration with a use behind it is marked, and those without a mark are dropped.
 :declared
 s/\n  ([a-zA-Z_0-9 ]+ )(_[0-9]+);(.*[^A-Za-z0-9_]\2[^0-9])/\n@ \1\2;\3/
 t declared
