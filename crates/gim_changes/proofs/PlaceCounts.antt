@@ -1,5 +1,5 @@
 -- A name is used in as many places as operands of the function are the name.
-use Rattle.std.proofs.Common.{◌≡◌, ◌==◌, ℕ, ◌+◌, Bool, List, [], ◌∷◌, ◌++◌, map, cond, refl, sym, ap, ◌∙◌}
+use Rattle.std.proofs.Common.{◌≡◌, ℕ, ◌+◌, Bool, List, [], ◌∷◌, ◌++◌, map, cond, refl, sym, ap, ◌∙◌}
 use Rattle.std.specs.List.{flat_map, count_by, enumerate_from}
 use Rattle.std.proofs.lemmas.Grind.{flat_map-append}
 use Rattle.std.proofs.lemmas.List.{append-nil}
@@ -9,7 +9,7 @@ use Rattle.pm_wide.specs.declared.operand.Operand.TheVariants.{Name, Const}
 use Rattle.gim_ast.specs.declared.function.Function.{Function}
 use Rattle.gim_ast.specs.declared.function.Block.{Block}
 use Rattle.gim_ast.specs.Functions.{is_name, operands_of, operands_of_block, operands_of_phi, operands_of_stmt, operands_of_end, uses_of}
-use Rattle.gim_changes.specs.UsePlaces.{UsePlace, items_of, places_of_operand, places_in_item, places_in_block, use_places, is_place_of}
+use Rattle.gim_changes.specs.UsePlaces.{items_of, places_of_operand, places_in_item, places_in_block, use_places, is_place_of}
 
 count_both : {X Y : Type 0} (p : X → Bool) (q : Y → Bool) (xs us : List X) (ys vs : List Y) → count_by p xs ≡ count_by q ys → count_by p us ≡ count_by q vs →
     count_by p (xs ++ us) ≡ count_by q (ys ++ vs)
