@@ -1,17 +1,13 @@
 -- A name is read from its base, an underscore and its version, and from nothing else.
-use Rattle.std.proofs.Common.{◌≡◌, ◌≢◌, ◌⊎◌, ℕ, zero, suc, ◌+◌, ◌*◌, ◌-◌, ◌^◌, ◌<◌, ◌≤◌, Bool, true, false, cond, List, [], ◌∷◌, ◌++◌, length, get_or, Option, Some, None, refl, sym, ap, subst, ◌∙◌, arith, rules, inl, inr}
-use Rattle.std.specs.Prelude.{min, nat_lt, nat_le, ◌==◌, ◌&&◌, not, option_map}
+use Rattle.std.proofs.Common.{◌≡◌, ◌⊎◌, ℕ, ◌^◌, ◌<◌, ◌≤◌, Bool, true, false, cond, List, [], ◌∷◌, ◌++◌, Option, Some, None, refl, sym, ap, subst, arith, inl, inr}
+use Rattle.std.specs.Prelude.{◌==◌, option_map}
 use Rattle.std.specs.List.{list_all}
 use Rattle.std.specs.Fmt.{decimal}
-use Rattle.std.specs.Int.{IsInRange}
-use Rattle.std.proofs.lemmas.Str.Parse.{IsDigitsTest, FoldsDigits, IsNumeralModel, numerals_by_fold}
-use Rattle.std.proofs.lemmas.Fmt.{decimal_digit, digits_decimal, digits_value-decimal, decimal-digits_value, decimal_nonempty, first_decimal}
-use Rattle.std.proofs.lemmas.Bool.{and_parts, and_from, lt-ltb, ltb-true, leb-true, eqb-true, eqb-false, ne_eqb, not-true, not_from_false, false_from_ne_true, and_left, and_right, false≢true}
-use Rattle.std.proofs.lemmas.Bool.Decides.{nat_tests}
+use Rattle.std.proofs.lemmas.Bool.{and_parts, eqb-true}
 use Rattle.gim_ast.specs.Identifiers.{anonymous}
 use Rattle.lexing.specs.Bytes.{is_digit}
 use Rattle.lexing.proofs.NumberLemmas.{number_below-decimal, number_below_is, number_below_other, decimal_digits, other_among, underscore_is_no_digit}
-use Rattle.lexing.specs.Numbers.{is_number_text, number_after, capped, number_below}
+use Rattle.lexing.specs.Numbers.{number_below}
 use Rattle.gim_ast.specs.Numbers.{name_from, name_below}
 
 -- digits alone are no name

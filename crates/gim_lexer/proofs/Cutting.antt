@@ -17,7 +17,8 @@ use Rattle.gim_lexer.proofs.Fronts.{separator_within, token_front}
 
 separator_ends : (source : List ℕ) (at to : ℕ) → at ≤ length source → separator_at source at ≡ Some to → (at < to) × (to ≤ length source)
 separator_ends source at to le e = by (separator_length (line_begins source at) (drop at source)) (separator_within (line_begins source at) (drop at source)) e where
-  by : (o : Option ℕ) → ((n : ℕ) → o ≡ Some n → (0 < n) × (n ≤ length (drop at source))) → option_map (λ n. at + n) o ≡ Some to → (at < to) × (to ≤ length source)
+  by : (o : Option ℕ) → ((n : ℕ) → o ≡ Some n → (0 < n) × (n ≤ length (drop at source))) → option_map (λ n. at + n) o ≡ Some to
+      → (at < to) × (to ≤ length source)
   by None within e = absurd cc
   by (Some n) within e =
       let w = within n refl in

@@ -105,9 +105,11 @@ word_place word span = by (type_word_of word) (keyword_of word) where
   by None (Some found) = refl
   by None None = plain_place word span
 
-plain_spelled : (word : List ℕ) (span : Span) → is_word_text word ≡ true → type_word_of word ≡ None → keyword_of word ≡ None → Spells word (plain_word word span)
+plain_spelled : (word : List ℕ) (span : Span) → is_word_text word ≡ true → type_word_of word ≡ None → keyword_of word ≡ None
+    → Spells word (plain_word word span)
 plain_spelled word span text t k = by (is_block_word word) (bytes_eq word (codes "ssa")) refl refl where
-  by : (b s : Bool) → is_block_word word ≡ b → bytes_eq word (codes "ssa") ≡ s → Spells word (cond b (tokens.BlockWord span) (cond s (tokens.Ssa span) (tokens.Identifier span)))
+  by : (b s : Bool) → is_block_word word ≡ b → bytes_eq word (codes "ssa") ≡ s
+      → Spells word (cond b (tokens.BlockWord span) (cond s (tokens.Ssa span) (tokens.Identifier span)))
   by true s p q = p
   by false true p q = same_bytes word (codes "ssa") q
   by false false p q = and_from (is_word_text word) (not (is_reserved word)) text (ap not (not_reserved word t k p))
@@ -171,7 +173,8 @@ text_front at rest t e = by (quoted_length rest) refl e where
       let f = quoted_front rest n p in
       subst (Front at (34 ∷ rest)) (some_is (tokens.Text (place at n)) t e) (record { len = n; at_place = refl; long = f.long; within = omega (arith, f.within); spelled = f.is_quoted })
 
-short_front : (at a : ℕ) (text : List ℕ) (t : Token) (m : MarkKind) → short_mark a ≡ Some m → Some (tokens.Mark m (place at 1)) ≡ Some t → Front at (a ∷ text) t
+short_front : (at a : ℕ) (text : List ℕ) (t : Token) (m : MarkKind) → short_mark a ≡ Some m → Some (tokens.Mark m (place at 1)) ≡ Some t
+    → Front at (a ∷ text) t
 short_front at a text t m p e =
     subst (Front at (a ∷ text)) (some_is (tokens.Mark m (place at 1)) t e) (record { len = 1; at_place = refl; long = omega arith; within = omega arith; spelled = inr p })
 

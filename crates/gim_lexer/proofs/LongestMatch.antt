@@ -45,7 +45,8 @@ letters_within (b ∷ text) (suc m) le h =
     let none : prefix_len is_digit (b ∷ text) ≡ 0 = no_run is_digit b text (letter_is_no_digit b first) in
     rw none (omega (arith, within_run is_suffix_letter (b ∷ text) (suc m) le h))
 
-number_within : (text digits suffix : List ℕ) (m : ℕ) → m ≤ length text → take m text ≡ digits ++ suffix → list_all is_digit digits ≡ true → list_all is_suffix_letter suffix ≡ true → m ≤ number_run text
+number_within : (text digits suffix : List ℕ) (m : ℕ) → m ≤ length text → take m text ≡ digits ++ suffix → list_all is_digit digits ≡ true
+    → list_all is_suffix_letter suffix ≡ true → m ≤ number_run text
 unfolding number_run
 number_within text [] suffix m le e ds ls = letters_within text m le (ap (list_all is_suffix_letter) e ∙ ls)
 number_within text (d ∷ digits) suffix zero le e ds ls = omega arith
@@ -122,7 +123,8 @@ number_end at text = refl
 
 number_reaches : (at : ℕ) (text : List ℕ) (m : ℕ) (kind : NumberKind) → m ≤ length text → IsNumber kind (take m text) → Reaches at text m
 number_reaches at text m kind le number = by text m number.digits le number.parts number.some_digit number.are_digits where
-  by : (text : List ℕ) (m : ℕ) (digits : List ℕ) → m ≤ length text → take m text ≡ digits ++ number.suffix → 0 < length digits → list_all is_digit digits ≡ true → Reaches at text m
+  by : (text : List ℕ) (m : ℕ) (digits : List ℕ) → m ≤ length text → take m text ≡ digits ++ number.suffix → 0 < length digits
+      → list_all is_digit digits ≡ true → Reaches at text m
   by text m [] le e some h = absurd (omega arith)
   by text zero (d ∷ digits) le e some h = absurd cc
   by [] (suc m) (d ∷ digits) le e some h = absurd (omega arith)
@@ -150,7 +152,8 @@ text_reaches at (b ∷ rest) (suc m) le quoted =
     let found = quoted_found rest m (omega arith) (subst (λ a. IsQuoted (a ∷ take m rest)) same quoted) in
     subst (λ a. Reaches at (a ∷ rest) (suc m)) (sym same) (record { found = tokens.Text (place at (suc m)); begins = text_begins at (suc m) rest found; far = omega arith })
 
-odd_begins : (at a : ℕ) (text : List ℕ) → is_odd a ≡ true → opens (a ∷ text) (codes "/*") ≡ false → token_of_text at (a ∷ text) ≡ mark_at at (a ∷ text)
+odd_begins : (at a : ℕ) (text : List ℕ) → is_odd a ≡ true → opens (a ∷ text) (codes "/*") ≡ false
+    → token_of_text at (a ∷ text) ≡ mark_at at (a ∷ text)
 unfolding token_of_text is_odd
 odd_begins at a text odd h = by (is_letter a) (is_digit a) (a == 34) odd where
   by : (l d q : Bool) → (not l && not d && not q) ≡ true
@@ -160,20 +163,24 @@ odd_begins at a text odd h = by (is_letter a) (is_digit a) (a == 34) odd where
   by false false true odd = absurd (false≢true odd)
   by false false false odd = rw h refl
 
-mark_reaches : (at m : ℕ) (text : List ℕ) (a : ℕ) (t : Token) → is_odd a ≡ true → mark_at at (a ∷ text) ≡ Some t → at + m ≤ (span_of t).to → (opens (a ∷ text) (codes "/*") ≡ true) ⊎ Reaches at (a ∷ text) m
+mark_reaches : (at m : ℕ) (text : List ℕ) (a : ℕ) (t : Token) → is_odd a ≡ true → mark_at at (a ∷ text) ≡ Some t → at + m ≤ (span_of t).to
+    → (opens (a ∷ text) (codes "/*") ≡ true) ⊎ Reaches at (a ∷ text) m
 mark_reaches at m text a t odd e far = by (opens (a ∷ text) (codes "/*")) refl where
   by : (o : Bool) → opens (a ∷ text) (codes "/*") ≡ o → (opens (a ∷ text) (codes "/*") ≡ true) ⊎ Reaches at (a ∷ text) m
   by true h = inl h
   by false h = inr (record { found = t; begins = odd_begins at a text odd h ∙ e; far = far })
 
-long_at : (at a b : ℕ) (text : List ℕ) (mark : MarkKind) → long_mark a b ≡ Some mark → mark_at at (a ∷ b ∷ text) ≡ Some (tokens.Mark mark (place at 2))
+long_at : (at a b : ℕ) (text : List ℕ) (mark : MarkKind) → long_mark a b ≡ Some mark
+    → mark_at at (a ∷ b ∷ text) ≡ Some (tokens.Mark mark (place at 2))
 unfolding mark_at
 long_at at a b text mark e = rw e refl
 
-long_reaches : (at : ℕ) (text : List ℕ) (m : ℕ) (mark : MarkKind) → m ≤ length text → beside (take m text) long_marks ≡ Some mark → (opens text (codes "/*") ≡ true) ⊎ Reaches at text m
+long_reaches : (at : ℕ) (text : List ℕ) (m : ℕ) (mark : MarkKind) → m ≤ length text → beside (take m text) long_marks ≡ Some mark
+    → (opens text (codes "/*") ≡ true) ⊎ Reaches at text m
 unfolding is_double is_odd
 long_reaches at text m mark le e = by text m le e (beside_passes is_double long_marks (take m text) mark e refl) where
-  by : (text : List ℕ) (m : ℕ) → m ≤ length text → beside (take m text) long_marks ≡ Some mark → is_double (take m text) ≡ true → (opens text (codes "/*") ≡ true) ⊎ Reaches at text m
+  by : (text : List ℕ) (m : ℕ) → m ≤ length text → beside (take m text) long_marks ≡ Some mark → is_double (take m text) ≡ true
+      → (opens text (codes "/*") ≡ true) ⊎ Reaches at text m
   by text zero le e h = absurd (false≢true h)
   by [] (suc m) le e h = absurd (omega arith)
   by (a ∷ text) (suc zero) le e h = absurd (false≢true h)
@@ -182,7 +189,8 @@ long_reaches at text m mark le e = by text m le e (beside_passes is_double long_
   by (a ∷ b ∷ []) (suc (suc (suc m))) le e h = absurd (omega arith)
   by (a ∷ b ∷ c ∷ text) (suc (suc (suc m))) le e h = absurd (false≢true h)
 
-short_at : (at a : ℕ) (text : List ℕ) (mark : MarkKind) → short_mark a ≡ Some mark → (t : Token) × (mark_at at (a ∷ text) ≡ Some t) × (at + 1 ≤ (span_of t).to)
+short_at : (at a : ℕ) (text : List ℕ) (mark : MarkKind) → short_mark a ≡ Some mark
+    → (t : Token) × (mark_at at (a ∷ text) ≡ Some t) × (at + 1 ≤ (span_of t).to)
 unfolding mark_at
 short_at at a [] mark e = (tokens.Mark mark (place at 1), ap (mark_from at None) e, omega arith)
 short_at at a (b ∷ text) mark e = by (long_mark a b) where
@@ -190,10 +198,12 @@ short_at at a (b ∷ text) mark e = by (long_mark a b) where
   by (Some other) = (tokens.Mark other (place at 2), refl, omega arith)
   by None = (tokens.Mark mark (place at 1), ap (mark_from at None) e, omega arith)
 
-short_reaches : (at : ℕ) (text : List ℕ) (m : ℕ) (mark : MarkKind) → m ≤ length text → beside (take m text) short_marks ≡ Some mark → (opens text (codes "/*") ≡ true) ⊎ Reaches at text m
+short_reaches : (at : ℕ) (text : List ℕ) (m : ℕ) (mark : MarkKind) → m ≤ length text → beside (take m text) short_marks ≡ Some mark
+    → (opens text (codes "/*") ≡ true) ⊎ Reaches at text m
 unfolding is_short is_odd
 short_reaches at text m mark le e = by text m le e (beside_passes is_short short_marks (take m text) mark e refl) where
-  by : (text : List ℕ) (m : ℕ) → m ≤ length text → beside (take m text) short_marks ≡ Some mark → is_short (take m text) ≡ true → (opens text (codes "/*") ≡ true) ⊎ Reaches at text m
+  by : (text : List ℕ) (m : ℕ) → m ≤ length text → beside (take m text) short_marks ≡ Some mark → is_short (take m text) ≡ true
+      → (opens text (codes "/*") ≡ true) ⊎ Reaches at text m
   by text zero le e h = absurd (false≢true h)
   by [] (suc m) le e h = absurd (omega arith)
   by (a ∷ text) (suc zero) le e h = let s = short_at at a text mark e in mark_reaches at 1 text a s.0 h s.1 s.2
@@ -202,7 +212,8 @@ short_reaches at text m mark le e = by text m le e (beside_passes is_short short
 
 -- ---- all of them
 
-reaches : (at : ℕ) (text : List ℕ) (m : ℕ) (t : Token) → m ≤ length text → Spells (take m text) t → (opens text (codes "/*") ≡ true) ⊎ Reaches at text m
+reaches : (at : ℕ) (text : List ℕ) (m : ℕ) (t : Token) → m ≤ length text → Spells (take m text) t
+    → (opens text (codes "/*") ≡ true) ⊎ Reaches at text m
 reaches at text m (tokens.TypeWord word span) le s = inr (word_reaches at text m le (beside_passes is_word_text type_words (take m text) word s refl))
 reaches at text m (tokens.Keyword word span) le s = inr (word_reaches at text m le (beside_passes is_word_text keyword_table (take m text) word s refl))
 reaches at text m (tokens.BlockWord span) le s = inr (word_reaches at text m le (block_is_word (take m text) s))
@@ -217,6 +228,7 @@ pub longest_match : (source : List ℕ) → IsLongestMatch source
 longest_match source from to le le' s =
     let left : length (drop from source) ≡ length source - from = length-drop from source in
     by (reaches from (drop from source) (to - from) s.0 (omega arith) s.1) where
-      by : (opens (drop from source) (codes "/*") ≡ true) ⊎ Reaches from (drop from source) (to - from) → OpensComment source from ⊎ Covers source from to
+      by : (opens (drop from source) (codes "/*") ≡ true) ⊎ Reaches from (drop from source) (to - from)
+          → OpensComment source from ⊎ Covers source from to
       by (inl h) = inl h
       by (inr r) = inr (record { token = r.found; begins = r.begins; reaches = omega (arith, r.far) })

@@ -36,7 +36,8 @@ plain_suffix (b ∷ suffix) e = absurd (by (beside_in_any_case (b ∷ suffix) su
   by None p e = cc
   by (Some kind) p e = false≢true (sym (ap is_not_plain e) ∙ meaning_has is_not_plain (λ spelling. str_eq_ignore_ascii_case spelling (b ∷ suffix)) (drop 1 suffixes) kind refl p)
 
-kind_is_sound : (kind : NumberKind) (digits suffix : List ℕ) → is_number_text digits ≡ true → leading_digits (digits ++ suffix) ≡ digits → suffix_kind suffix ≡ kind → IsNumberText kind (digits ++ suffix)
+kind_is_sound : (kind : NumberKind) (digits suffix : List ℕ) → is_number_text digits ≡ true → leading_digits (digits ++ suffix) ≡ digits
+    → suffix_kind suffix ≡ kind → IsNumberText kind (digits ++ suffix)
 kind_is_sound Plain digits suffix n front e =
     let all : digits ++ suffix ≡ digits = ap (λ bs. digits ++ bs) (plain_suffix suffix e) ∙ append-nil digits in
     (ap is_number_text all ∙ n, front ∙ sym all)
@@ -45,7 +46,8 @@ kind_is_sound Long digits suffix n front e = ap is_number_text front ∙ n
 kind_is_sound UnsignedLong digits suffix n front e = ap is_number_text front ∙ n
 kind_is_sound Wrong digits suffix n front e = tt
 
-is_sound : (kind : NumberKind) (text digits suffix : List ℕ) → text ≡ digits ++ suffix → list_all is_digit digits ≡ true → list_all is_suffix_letter suffix ≡ true → number_kind digits suffix ≡ kind → IsNumberText kind text
+is_sound : (kind : NumberKind) (text digits suffix : List ℕ) → text ≡ digits ++ suffix → list_all is_digit digits ≡ true
+    → list_all is_suffix_letter suffix ≡ true → number_kind digits suffix ≡ kind → IsNumberText kind text
 unfolding number_kind
 is_sound kind text digits suffix parts ds ls e = subst (IsNumberText kind) (sym parts) (by (is_number_text digits) refl e) where
   by : (n : Bool) → is_number_text digits ≡ n → cond n (suffix_kind suffix) Wrong ≡ kind → IsNumberText kind (digits ++ suffix)

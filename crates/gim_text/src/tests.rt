@@ -20,6 +20,7 @@ fn constant(written: &str, ty: LiteralType, negative: bool) -> Option<u128> {
     literal(written.as_bytes(), &constant).map(|word| word.bits())
 }
 
+/// How many bits the type of the constant has that the whole text writes.
 fn width(written: &str, ty: LiteralType, negative: bool) -> Option<u8> {
     let number = Span {
         from: 0,
@@ -34,6 +35,7 @@ fn width(written: &str, ty: LiteralType, negative: bool) -> Option<u8> {
     literal(written.as_bytes(), &constant).map(|word| word.ty().bits())
 }
 
+/// Without a suffix the number says the type.
 #[test]
 fn a_plain_constant_is_int_or_long(rt: HostRuntime) -> Result<(), Fail> {
     assert!(rt; width("2147483647", LiteralType::Plain, false) == Some(32));
@@ -49,6 +51,7 @@ fn a_plain_constant_is_int_or_long(rt: HostRuntime) -> Result<(), Fail> {
     Ok(())
 }
 
+/// A suffix bounds its constant.
 #[test]
 fn suffixes_say_the_type(rt: HostRuntime) -> Result<(), Fail> {
     assert!(rt; width("4294967295u", LiteralType::Unsigned, false) == Some(32));
@@ -64,6 +67,7 @@ fn suffixes_say_the_type(rt: HostRuntime) -> Result<(), Fail> {
     Ok(())
 }
 
+/// A type in parentheses bounds its constant.
 #[test]
 fn a_written_type_bounds_its_constant(rt: HostRuntime) -> Result<(), Fail> {
     assert!(rt;
@@ -101,6 +105,7 @@ fn lengths(name: &str) -> Option<(usize, usize)> {
     name_parts(name.as_bytes()).map(|parts| (parts.0.len(), parts.1.len()))
 }
 
+/// Names with their bases and versions.
 #[test]
 fn names_end_in_a_version(rt: HostRuntime) -> Result<(), Fail> {
     assert!(rt; lengths("x_1") == Some((1, 1)));
@@ -115,6 +120,7 @@ fn names_end_in_a_version(rt: HostRuntime) -> Result<(), Fail> {
     Ok(())
 }
 
+/// A fault has the place and the length of its token.
 #[test]
 fn a_fault_stands_at_its_token(rt: HostRuntime) -> Result<(), Fail> {
     let fault = GimpleFault::at(GimpleKind::Syntax, Span { from: 4, to: 5 });

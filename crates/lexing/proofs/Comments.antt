@@ -10,7 +10,8 @@ unfolding length_to_star_slash
 ends_here [] h = absurd cc
 ends_here (b ∷ text) h = rw h refl
 
-ends_later : (b : ℕ) (text : List ℕ) → opens (b ∷ text) (codes "*/") ≡ false → length_to_star_slash (b ∷ text) ≡ option_map (λ n. 1 + n) (length_to_star_slash text)
+ends_later : (b : ℕ) (text : List ℕ) → opens (b ∷ text) (codes "*/") ≡ false
+    → length_to_star_slash (b ∷ text) ≡ option_map (λ n. 1 + n) (length_to_star_slash text)
 unfolding length_to_star_slash
 ends_later b text h = rw h refl
 
@@ -18,10 +19,12 @@ moved : (at : ℕ) (found : Option ℕ) → option_map (λ n. (at + 1) + n) foun
 moved at None = refl
 moved at (Some n) = ap Some (omega arith)
 
-pub found_here : (text : List ℕ) (at : ℕ) (all : Option ℕ) → opens (drop at text) (codes "*/") ≡ true → option_map (λ n. at + n) (length_to_star_slash (drop at text)) ≡ all → Some (at + 2) ≡ all
+pub found_here : (text : List ℕ) (at : ℕ) (all : Option ℕ) → opens (drop at text) (codes "*/") ≡ true
+    → option_map (λ n. at + n) (length_to_star_slash (drop at text)) ≡ all → Some (at + 2) ≡ all
 found_here text at all h e = sym (ap (option_map (λ n. at + n)) (ends_here (drop at text) h)) ∙ e
 
-pub found_later : (text : List ℕ) (at : ℕ) (all : Option ℕ) → at < length text → opens (drop at text) (codes "*/") ≡ false → option_map (λ n. at + n) (length_to_star_slash (drop at text)) ≡ all
+pub found_later : (text : List ℕ) (at : ℕ) (all : Option ℕ) → at < length text → opens (drop at text) (codes "*/") ≡ false
+    → option_map (λ n. at + n) (length_to_star_slash (drop at text)) ≡ all
     → option_map (λ n. (at + 1) + n) (length_to_star_slash (drop (at + 1) text)) ≡ all
 found_later text at all lt h e =
     let cut : drop at text ≡ get_or text at 0 ∷ drop (at + 1) text = rw (add-one, drop-cons text at 0 lt) refl in
@@ -29,7 +32,8 @@ found_later text at all lt h e =
     ∙ sym (ap (option_map (λ n. at + n)) (ap length_to_star_slash cut ∙ ends_later (get_or text at 0) (drop (at + 1) text) (sym (ap (λ t. opens t (codes "*/")) cut) ∙ h)))
     ∙ e
 
-pub found_nowhere : (text : List ℕ) (at : ℕ) (all : Option ℕ) → length text ≤ at → option_map (λ n. at + n) (length_to_star_slash (drop at text)) ≡ all → None ≡ all
+pub found_nowhere : (text : List ℕ) (at : ℕ) (all : Option ℕ) → length text ≤ at
+    → option_map (λ n. at + n) (length_to_star_slash (drop at text)) ≡ all → None ≡ all
 unfolding length_to_star_slash
 found_nowhere text at all le e = sym (ap (λ rest. option_map (λ n. at + n) (length_to_star_slash rest)) (drop_all at text le)) ∙ e
 
@@ -37,14 +41,16 @@ pub to_star_slash_within : (text : List ℕ) (n : ℕ) → length_to_star_slash 
 unfolding length_to_star_slash
 to_star_slash_within [] n e = absurd cc
 to_star_slash_within (b ∷ text) n e = by (opens (b ∷ text) (codes "*/")) (length_to_star_slash text) (opens_long (b ∷ text) (codes "*/")) (to_star_slash_within text) e where
-  by : (t : Bool) (o : Option ℕ) → (t ≡ true → 2 ≤ length (b ∷ text)) → ((m : ℕ) → o ≡ Some m → m ≤ length text) → cond t (Some 2) (option_map (λ n. 1 + n) o) ≡ Some n → n ≤ length (b ∷ text)
+  by : (t : Bool) (o : Option ℕ) → (t ≡ true → 2 ≤ length (b ∷ text)) → ((m : ℕ) → o ≡ Some m → m ≤ length text)
+      → cond t (Some 2) (option_map (λ n. 1 + n) o) ≡ Some n → n ≤ length (b ∷ text)
   by true o long later e = let same : 2 ≡ n = cc in omega (arith, long refl)
   by false None long later e = absurd cc
   by false (Some m) long later e = let same : 1 + m ≡ n = cc in omega (arith, later m refl)
 
 pub comment_within : (text : List ℕ) (n : ℕ) → comment_length text ≡ Some n → (0 < n) × (n ≤ length text)
 comment_within text n e = by (opens text (codes "/*")) (length_to_star_slash (drop 2 text)) (opens_long text (codes "/*")) (to_star_slash_within (drop 2 text)) e where
-  by : (t : Bool) (o : Option ℕ) → (t ≡ true → 2 ≤ length text) → ((m : ℕ) → o ≡ Some m → m ≤ length (drop 2 text)) → cond t (option_map (λ n. 2 + n) o) None ≡ Some n → (0 < n) × (n ≤ length text)
+  by : (t : Bool) (o : Option ℕ) → (t ≡ true → 2 ≤ length text) → ((m : ℕ) → o ≡ Some m → m ≤ length (drop 2 text))
+      → cond t (option_map (λ n. 2 + n) o) None ≡ Some n → (0 < n) × (n ≤ length text)
   by true (Some m) long within e =
       let same : 2 + m ≡ n = cc in
       let rest : length (drop 2 text) ≡ length text - 2 = length-drop 2 text in

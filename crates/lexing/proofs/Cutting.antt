@@ -3,8 +3,7 @@ use Rattle.std.proofs.Common.{◌≡◌, ℕ, zero, suc, ◌-◌, ◌<◌, ◌�
 use Rattle.std.specs.List.{AllByRecursion}
 use Rattle.std.proofs.lemmas.Bool.{cases_lt}
 use Rattle.std.proofs.lemmas.List.{append-nil}
-use Rattle.pm_places.specs.declared.span.Span.{Span}
-use Rattle.lexing.specs.Cuts.{Language, Cuts, done, separator, token, AreTokens, IsLexFault, HasOutcome, StandsIn, InOrder}
+use Rattle.lexing.specs.Cuts.{Language, Cuts, done, separator, token, AreTokens, IsLexFault, HasOutcome, InOrder}
 
 -- nothing begins there
 pub record Stops {T : Type 0} (language : Language T) (source : List ℕ) (at : ℕ) : Type 0 where
@@ -13,9 +12,11 @@ pub record Stops {T : Type 0} (language : Language T) (source : List ℕ) (at : 
 
 -- separators and tokens have bytes, and these lie in the source
 pub record Moves {T : Type 0} (language : Language T) : Type 0 where
-  pub separator_ends : (source : List ℕ) (at to : ℕ) → at ≤ length source → language.separator_at source at ≡ Some to → (at < to) × (to ≤ length source)
+  pub separator_ends : (source : List ℕ) (at to : ℕ) → at ≤ length source → language.separator_at source at ≡ Some to
+      → (at < to) × (to ≤ length source)
   pub token_begins : (source : List ℕ) (at : ℕ) (t : T) → at ≤ length source → language.token_at source at ≡ Some t → (language.span_of t).from ≡ at
-  pub token_ends : (source : List ℕ) (at : ℕ) (t : T) → at ≤ length source → language.token_at source at ≡ Some t → (at < (language.span_of t).to) × ((language.span_of t).to ≤ length source)
+  pub token_ends : (source : List ℕ) (at : ℕ) (t : T) → at ≤ length source → language.token_at source at ≡ Some t
+      → (at < (language.span_of t).to) × ((language.span_of t).to ≤ length source)
 
 -- up to the place the source is cut into these tokens
 pub record Reached {T : Type 0} (language : Language T) (source : List ℕ) (ts : List T) (at : ℕ) : Type 0 where
@@ -33,22 +34,29 @@ none_from_never None never = refl
 none_from_never (Some x) never = absurd (never x refl)
 
 module _ {T : Type 0} {language : Language T} where
-  pub cuts_further : (source : List ℕ) (a b c : ℕ) (ts us : List T) → Cuts language source a ts b → Cuts language source b us c → Cuts language source a (ts ++ us) c
+  pub cuts_further : (source : List ℕ) (a b c : ℕ) (ts us : List T) → Cuts language source a ts b → Cuts language source b us c
+      → Cuts language source a (ts ++ us) c
   cuts_further source _ _ c _ us (done at) more = more
-  cuts_further source _ _ c _ us (separator at next to ts is cut) more = separator at next c (ts ++ us) is (cuts_further source next to c ts us cut more)
+  cuts_further source _ _ c _ us (separator at next to ts is cut) more =
+      separator at next c (ts ++ us) is (cuts_further source next to c ts us cut more)
   cuts_further source _ _ c _ us (token at to t ts none is cut) more =
       token at c t (ts ++ us) none is (cuts_further source (language.span_of t).to to c ts us cut more)
 
-  pub one_cut : (source : List ℕ) (a b c : ℕ) (ts us : List T) → Cuts language source a ts b → Cuts language source a us c → Stops language source b → Stops language source c → (b ≡ c) × (ts ≡ us)
+  pub one_cut : (source : List ℕ) (a b c : ℕ) (ts us : List T) → Cuts language source a ts b → Cuts language source a us c
+      → Stops language source b → Stops language source c → (b ≡ c) × (ts ≡ us)
   one_cut source _ _ _ _ _ (done at) (done _) sb sc = (refl, refl)
-  one_cut source _ _ _ _ _ (done at) (separator _ next to us is cut) sb sc = absurd (none_some (language.separator_at source at) next sb.no_separator is)
+  one_cut source _ _ _ _ _ (done at) (separator _ next to us is cut) sb sc =
+      absurd (none_some (language.separator_at source at) next sb.no_separator is)
   one_cut source _ _ _ _ _ (done at) (token _ to u us none is cut) sb sc = absurd (none_some (language.token_at source at) u sb.no_token is)
-  one_cut source _ _ _ _ _ (separator at next to ts is cut) (done _) sb sc = absurd (none_some (language.separator_at source at) next sc.no_separator is)
+  one_cut source _ _ _ _ _ (separator at next to ts is cut) (done _) sb sc =
+      absurd (none_some (language.separator_at source at) next sc.no_separator is)
   one_cut source _ _ _ _ _ (separator at next to ts is cut) (separator _ next' to' us is' cut') sb sc =
       one_cut source next to to' ts us cut (subst (λ n. Cuts language source n us to') (same_some (language.separator_at source at) next' next is' is) cut') sb sc
-  one_cut source _ _ _ _ _ (separator at next to ts is cut) (token _ to' u us none is' cut') sb sc = absurd (none_some (language.separator_at source at) next none is)
+  one_cut source _ _ _ _ _ (separator at next to ts is cut) (token _ to' u us none is' cut') sb sc =
+      absurd (none_some (language.separator_at source at) next none is)
   one_cut source _ _ _ _ _ (token at to t ts none is cut) (done _) sb sc = absurd (none_some (language.token_at source at) t sc.no_token is)
-  one_cut source _ _ _ _ _ (token at to t ts none is cut) (separator _ next' to' us is' cut') sb sc = absurd (none_some (language.separator_at source at) next' none is')
+  one_cut source _ _ _ _ _ (token at to t ts none is cut) (separator _ next' to' us is' cut') sb sc =
+      absurd (none_some (language.separator_at source at) next' none is')
   one_cut source _ _ _ _ _ (token at to t ts none is cut) (token _ to' u us none' is' cut') sb sc =
       let same : u ≡ t = same_some (language.token_at source at) u t is' is in
       let p = one_cut source (language.span_of t).to to to' ts us cut (subst (λ v. Cuts language source (language.span_of v).to us to') same cut') sb sc in
@@ -65,17 +73,20 @@ module _ {T : Type 0} {language : Language T} where
   pub begun : (source : List ℕ) (ts : List T) → ts ≡ [] → Reached language source ts 0
   begun source ts e = subst (λ us. Reached language source us 0) (sym e) (record { cut = done 0; within = omega arith })
 
-  pub whole : (source : List ℕ) (ts : List T) (at : ℕ) → Cuts language source 0 ts at → at ≤ length source → length source ≤ at → AreTokens language source ts
+  pub whole : (source : List ℕ) (ts : List T) (at : ℕ) → Cuts language source 0 ts at → at ≤ length source → length source ≤ at
+      → AreTokens language source ts
   whole source ts at cut le ge = let same : at ≡ length source = omega arith in subst (Cuts language source 0 ts) same cut
 
   module _ (moves : Moves language) where
-    pub past_separator : (source : List ℕ) (ts : List T) (at to : ℕ) → Reached language source ts at → language.separator_at source at ≡ Some to → Reached language source ts to × (at < to)
+    pub past_separator : (source : List ℕ) (ts : List T) (at to : ℕ) → Reached language source ts at → language.separator_at source at ≡ Some to
+        → Reached language source ts to × (at < to)
     past_separator source ts at to reached is =
         let ends = moves.separator_ends source at to reached.within is in
         let cut = subst (λ us. Cuts language source 0 us to) (append-nil ts) (cuts_further source 0 at to ts [] reached.cut (separator at to to [] is (done to))) in
         (record { cut = cut; within = ends.1 }, ends.0)
 
-    pub past_token : (source : List ℕ) (ts : List T) (at : ℕ) (t : T) → Reached language source ts at → language.separator_at source at ≡ None → language.token_at source at ≡ Some t
+    pub past_token : (source : List ℕ) (ts : List T) (at : ℕ) (t : T) → Reached language source ts at → language.separator_at source at ≡ None
+        → language.token_at source at ≡ Some t
         → Reached language source (ts ++ t ∷ []) (language.span_of t).to × (at < (language.span_of t).to)
     past_token source ts at t reached none is =
         let to = (language.span_of t).to in
@@ -103,19 +114,22 @@ module _ {T : Type 0} {language : Language T} where
     at_end : (source : List ℕ) (ts : List T) (at : ℕ) → Reached language source ts at → length source ≤ at → HasOutcome language source
     at_end source ts at r ge = inl (ts, whole source ts at r.cut r.within ge)
 
-    where_nothing_begins : (source : List ℕ) (ts : List T) (at : ℕ) → Reached language source ts at → language.separator_at source at ≡ None → language.token_at source at ≡ None → HasOutcome language source
+    where_nothing_begins : (source : List ℕ) (ts : List T) (at : ℕ) → Reached language source ts at → language.separator_at source at ≡ None
+        → language.token_at source at ≡ None → HasOutcome language source
     where_nothing_begins source ts at r s t = by (cases_lt at (length source)) where
       by : (at < length source) ⊎ (length source ≤ at) → HasOutcome language source
       by (inl lt) = inr (at, record { tokens = ts; before = r.cut; within = lt; no_separator = s; no_token = t })
       by (inr ge) = at_end source ts at r ge
 
     -- from a place that is reached, by steps that are no more than the bytes that are left
-    outcome_from : (source : List ℕ) (left : ℕ) (ts : List T) (at : ℕ) → Reached language source ts at → length source - at ≤ left → HasOutcome language source
+    outcome_from : (source : List ℕ) (left : ℕ) (ts : List T) (at : ℕ) → Reached language source ts at → length source - at ≤ left
+        → HasOutcome language source
     outcome_from source zero ts at r few = at_end source ts at r (omega arith)
     outcome_from source (suc left) ts at r few =
         by (language.separator_at source at) (language.token_at source at) refl refl (λ us to later less. outcome_from source left us to later less) where
           by : (s : Option ℕ) (t : Option T) → language.separator_at source at ≡ s → language.token_at source at ≡ t
-              → ((us : List T) (to : ℕ) → Reached language source us to → length source - to ≤ left → HasOutcome language source) → HasOutcome language source
+              → ((us : List T) (to : ℕ) → Reached language source us to → length source - to ≤ left → HasOutcome language source)
+              → HasOutcome language source
           by (Some to) t p q later = let next = past_separator source ts at to r p in later ts to next.0 (omega (arith, next.1, next.0.within))
           by None (Some t) p q later =
               let next = past_token source ts at t r p q in

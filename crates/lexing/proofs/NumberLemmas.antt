@@ -121,7 +121,8 @@ pub underscore_is_no_digit : (b : ℕ) → is_digit b ≡ true → (b == 95) ≡
 underscore_is_no_digit b h = ne_eqb b 95 (λ e. false≢true (ap is_digit (sym e) ∙ h))
 
 -- the digits before a suffix are all at the front
-pub front_digits : (digits suffix : List ℕ) → list_all is_digit digits ≡ true → list_all is_suffix_letter suffix ≡ true → leading_digits (digits ++ suffix) ≡ digits
+pub front_digits : (digits suffix : List ℕ) → list_all is_digit digits ≡ true → list_all is_suffix_letter suffix ≡ true
+    → leading_digits (digits ++ suffix) ≡ digits
 front_digits [] [] ds ls = refl
 front_digits [] (b ∷ suffix) ds ls = rw (letter_is_no_digit b (and_parts (is_suffix_letter b) (list_all is_suffix_letter suffix) ls).0) refl
 front_digits (d ∷ digits) suffix ds ls =

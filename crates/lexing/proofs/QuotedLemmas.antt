@@ -1,5 +1,5 @@
 -- A text between two `"` is found where it stands, and nothing else is.
-use Rattle.std.proofs.Common.{◌≡◌, ℕ, zero, suc, ◌+◌, ◌-◌, ◌<◌, ◌≤◌, Bool, true, false, cond, List, [], ◌∷◌, ◌++◌, length, take, drop, codes, Option, Some, None, refl, sym, ap, ◌∙◌, subst, arith}
+use Rattle.std.proofs.Common.{◌≡◌, ℕ, zero, suc, ◌+◌, ◌-◌, ◌<◌, ◌≤◌, Bool, true, false, cond, List, [], ◌∷◌, ◌++◌, length, take, drop, codes, Some, None, refl, sym, ap, ◌∙◌, subst, arith}
 use Rattle.std.specs.List.{prefix_len, list_all}
 use Rattle.std.specs.Cmp.Lexicographic.{bytes_decides}
 use Rattle.std.proofs.lemmas.Bool.{and_parts}
@@ -20,7 +20,8 @@ pub record QuotedFront (rest : List ℕ) (n : ℕ) : Type 0 where
 pub quoted_front : (rest : List ℕ) (n : ℕ) → quoted_length rest ≡ Some n → QuotedFront rest n
 unfolding quoted_length
 quoted_front rest n e = by (opens (drop (prefix_len is_inner rest) rest) (codes "\"")) refl e where
-  by : (u : Bool) → opens (drop (prefix_len is_inner rest) rest) (codes "\"") ≡ u → cond u (Some (prefix_len is_inner rest + 2)) None ≡ Some n → QuotedFront rest n
+  by : (u : Bool) → opens (drop (prefix_len is_inner rest) rest) (codes "\"") ≡ u → cond u (Some (prefix_len is_inner rest + 2)) None ≡ Some n
+      → QuotedFront rest n
   by false p e = absurd cc
   by true p e =
       let k = prefix_len is_inner rest in

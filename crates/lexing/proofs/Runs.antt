@@ -8,7 +8,8 @@ use Rattle.lexing.specs.Numbers.{leading_digits}
 pub run_passes : (p : ℕ → Bool) (text : List ℕ) → list_all p (take (prefix_len p text) text) ≡ true
 run_passes p [] = refl
 run_passes p (b ∷ text) = by (p b) refl (run_passes p text) where
-  by : (t : Bool) → p b ≡ t → list_all p (take (prefix_len p text) text) ≡ true → list_all p (take (cond t (1 + prefix_len p text) 0) (b ∷ text)) ≡ true
+  by : (t : Bool) → p b ≡ t → list_all p (take (prefix_len p text) text) ≡ true
+      → list_all p (take (cond t (1 + prefix_len p text) 0) (b ∷ text)) ≡ true
   by true h all = rw one-add (and_from (p b) (list_all p (take (prefix_len p text) text)) h all)
   by false h all = refl
 
@@ -32,6 +33,7 @@ within_run p (b ∷ text) (suc m) le h =
 pub leading_digits_are_a_run : (text : List ℕ) → leading_digits text ≡ take (prefix_len is_digit text) text
 leading_digits_are_a_run [] = refl
 leading_digits_are_a_run (b ∷ text) = by (is_digit b) (leading_digits_are_a_run text) where
-  by : (t : Bool) → leading_digits text ≡ take (prefix_len is_digit text) text → cond t (b ∷ leading_digits text) [] ≡ take (cond t (1 + prefix_len is_digit text) 0) (b ∷ text)
+  by : (t : Bool) → leading_digits text ≡ take (prefix_len is_digit text) text
+      → cond t (b ∷ leading_digits text) [] ≡ take (cond t (1 + prefix_len is_digit text) 0) (b ∷ text)
   by true e = rw one-add (ap (λ bs. b ∷ bs) e)
   by false e = refl

@@ -23,23 +23,27 @@ is_nothing None (Some t) e = absurd cc
 is_nothing None None e = (refl, refl)
 
 module _ {T : Type 0} {language : Language T} where
-  pub step_fault : (source : List ℕ) (ts : List T) (at : ℕ) → Reached language source ts at → at < length source → None ≡ piece_at language source at → IsLexFault language source at
+  pub step_fault : (source : List ℕ) (ts : List T) (at : ℕ) → Reached language source ts at → at < length source
+      → None ≡ piece_at language source at → IsLexFault language source at
   step_fault source ts at reached within e =
       let found = is_nothing (language.separator_at source at) (language.token_at source at) e in
       record { tokens = ts; before = reached.cut; within = within; no_separator = found.0; no_token = found.1 }
 
   -- a token that was pushed
-  pub stepped : (source : List ℕ) (ts us : List T) (t : T) (span : Span) → us ≡ ts ++ t ∷ [] → span ≡ language.span_of t → Reached language source (ts ++ t ∷ []) (language.span_of t).to
+  pub stepped : (source : List ℕ) (ts us : List T) (t : T) (span : Span) → us ≡ ts ++ t ∷ [] → span ≡ language.span_of t
+      → Reached language source (ts ++ t ∷ []) (language.span_of t).to
       → Reached language source us span.to
   stepped source ts us t span e p reached = rw (e, p) reached
 
   module _ (moves : Moves language) where
-    pub step_separator : (source : List ℕ) (ts : List T) (at to : ℕ) (piece : Piece T) → Reached language source ts at → Some piece ≡ piece_at language source at → piece ≡ pieces.Separator to
+    pub step_separator : (source : List ℕ) (ts : List T) (at to : ℕ) (piece : Piece T) → Reached language source ts at
+        → Some piece ≡ piece_at language source at → piece ≡ pieces.Separator to
         → Reached language source ts to × (at < to)
     step_separator source ts at to piece reached e is =
         past_separator moves source ts at to reached (is_separator (language.separator_at source at) (language.token_at source at) to (sym (ap Some is) ∙ e))
 
-    pub step_token : (source : List ℕ) (ts : List T) (at : ℕ) (t : T) (piece : Piece T) → Reached language source ts at → Some piece ≡ piece_at language source at → piece ≡ pieces.Token t
+    pub step_token : (source : List ℕ) (ts : List T) (at : ℕ) (t : T) (piece : Piece T) → Reached language source ts at
+        → Some piece ≡ piece_at language source at → piece ≡ pieces.Token t
         → Reached language source (ts ++ t ∷ []) (language.span_of t).to × (at < (language.span_of t).to)
     step_token source ts at t piece reached e is =
         let found = is_token (language.separator_at source at) (language.token_at source at) t (sym (ap Some is) ∙ e) in

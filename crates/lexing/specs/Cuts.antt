@@ -1,6 +1,5 @@
 -- A source cut into separators and tokens, whatever its language says that these are.
 use Rattle.std.specs.Prelude.{◌≡◌, ◌⊎◌, ℕ, ◌<◌, ◌≤◌, Option, Some, None, List, [], ◌∷◌, length}
-use Rattle.std.specs.List.{AllByRecursion}
 use Rattle.pm_places.specs.declared.span.Span.{Span}
 use Rattle.pm_places.specs.Spans.{text_of}
 
@@ -15,7 +14,8 @@ pub record Language (T : Type 0) : Type 0 where
 -- a separator is one
 pub data Cuts {T : Type 0} (language : Language T) (source : List ℕ) : ℕ → List T → ℕ → Type 0 where
   done : (at : ℕ) → Cuts language source at [] at
-  separator : (at next to : ℕ) (tokens : List T) → language.separator_at source at ≡ Some next → Cuts language source next tokens to → Cuts language source at tokens to
+  separator : (at next to : ℕ) (tokens : List T) → language.separator_at source at ≡ Some next → Cuts language source next tokens to
+      → Cuts language source at tokens to
   token : (at to : ℕ) (t : T) (tokens : List T) → language.separator_at source at ≡ None → language.token_at source at ≡ Some t
       → Cuts language source (language.span_of t).to tokens to → Cuts language source at (t ∷ tokens) to
 

@@ -14,8 +14,8 @@ mod tables;
 mod words;
 
 pub use bytes::{
-    digits_len, is_digit, is_letter, is_space, is_suffix_letter, is_word_byte, line_len, suffix_len,
-    word_len,
+    digits_len, is_digit, is_letter, is_space, is_suffix_letter, is_word_byte, line_len,
+    suffix_len, word_len,
 };
 pub use numbers::{is_number_text, leading_digits, number_below, size};
 pub use pieces::Piece;

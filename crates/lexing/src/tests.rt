@@ -3,6 +3,7 @@
 use super::*;
 use std::test::Fail;
 
+/// Numbers below a limit, and their sizes.
 #[test]
 fn numbers(rt: HostRuntime) {
     assert_eq!(rt; number_below(300, b"299"), Some(299));
@@ -15,6 +16,7 @@ fn numbers(rt: HostRuntime) {
     assert_eq!(rt; size(b"340282366920938463463374607431768211456"), None);
 }
 
+/// Comments with their ends and without.
 #[test]
 fn comments(rt: HostRuntime) {
     assert_eq!(rt; comment_len(b"/***/ */"), Some(5));
@@ -23,6 +25,7 @@ fn comments(rt: HostRuntime) {
     assert!(rt; begins_with_space(b"\x0b") && !begins_with_space(b""));
 }
 
+/// Runs of bytes at the front, words and quoted texts.
 #[test]
 fn runs(rt: HostRuntime) {
     assert_eq!(rt; word_len(b"a_1-"), 3);
@@ -34,6 +37,7 @@ fn runs(rt: HostRuntime) {
     assert!(rt; is_word_text(b"_1") && !is_word_text(b"1_") && !is_word_text(b""));
 }
 
+/// Rows that are found by their texts.
 #[test]
 fn tables(rt: HostRuntime) -> Result<(), Fail> {
     let table: [Row<u8>; 2] = [("ul", 1), ("l", 2)];

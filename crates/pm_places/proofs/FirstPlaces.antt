@@ -19,18 +19,21 @@ module _ {X F : Type 0} (judge : List X → X → Option F) where
     none_before [] after y e = absurd cc
     none_before (z ∷ before) after y e = absurd cc
 
-  there : (known : List X) (x : X) (xs : List X) (fault : F) → judge known x ≡ None → IsFirstBehind judge (x ∷ known) xs fault → IsFirstBehind judge known (x ∷ xs) fault
-  there known x xs fault e later = record { front = x ∷ later.front; at = later.at; back = later.back; splits = ap (λ ys. x ∷ ys) later.splits; broken = later.broken; sound = none_before } where
-    same_first : (y : X) (ys zs : List X) → x ∷ ys ≡ y ∷ zs → (x ≡ y) × (ys ≡ zs)
-    same_first y ys zs e = (cc, cc)
+  there : (known : List X) (x : X) (xs : List X) (fault : F) → judge known x ≡ None → IsFirstBehind judge (x ∷ known) xs fault
+      → IsFirstBehind judge known (x ∷ xs) fault
+  there known x xs fault e later =
+      record { front = x ∷ later.front; at = later.at; back = later.back; splits = ap (λ ys. x ∷ ys) later.splits; broken = later.broken; sound = none_before } where
+        same_first : (y : X) (ys zs : List X) → x ∷ ys ≡ y ∷ zs → (x ≡ y) × (ys ≡ zs)
+        same_first y ys zs e = (cc, cc)
 
-    none_before : (before after : List X) (y : X) → x ∷ later.front ≡ before ++ y ∷ after → judge (reverse_aux before known) y ≡ None
-    none_before [] after y is = subst (λ z. judge known z ≡ None) (same_first y later.front after is).0 e
-    none_before (z ∷ before) after y is =
-        let p = same_first z later.front (before ++ y ∷ after) is in
-        subst (λ w. judge (reverse_aux before (w ∷ known)) y ≡ None) p.0 (later.sound before after y p.1)
+        none_before : (before after : List X) (y : X) → x ∷ later.front ≡ before ++ y ∷ after → judge (reverse_aux before known) y ≡ None
+        none_before [] after y is = subst (λ z. judge known z ≡ None) (same_first y later.front after is).0 e
+        none_before (z ∷ before) after y is =
+            let p = same_first z later.front (before ++ y ∷ after) is in
+            subst (λ w. judge (reverse_aux before (w ∷ known)) y ≡ None) p.0 (later.sound before after y p.1)
 
-  found_by : (known : List X) (x : X) (xs : List X) (fault : F) (o : Option F) → judge known x ≡ o → or_fault o (first_by judge (x ∷ known) xs) ≡ Some fault
+  found_by : (known : List X) (x : X) (xs : List X) (fault : F) (o : Option F) → judge known x ≡ o
+      → or_fault o (first_by judge (x ∷ known) xs) ≡ Some fault
       → (first_by judge (x ∷ known) xs ≡ Some fault → IsFirstBehind judge (x ∷ known) xs fault) → IsFirstBehind judge known (x ∷ xs) fault
   found_by known x xs fault None is e later = there known x xs fault is (later e)
   found_by known x xs fault (Some other) is e later = here known x xs fault (is ∙ e)

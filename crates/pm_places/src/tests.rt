@@ -3,6 +3,7 @@
 use super::*;
 use std::test::Fail;
 
+/// Lines and columns of each place of a text.
 #[test]
 fn places(rt: HostRuntime) -> Result<(), Fail> {
     let text = b"ab\n\n\tc\r\nd".as_slice();
@@ -27,6 +28,7 @@ fn places(rt: HostRuntime) -> Result<(), Fail> {
     Ok(())
 }
 
+/// A span that goes past the end has the bytes that are there.
 #[test]
 fn spans_past_the_end_have_what_is_there(rt: HostRuntime) -> Result<(), Fail> {
     let source = "int f".as_bytes();
