@@ -10,19 +10,14 @@ use Rattle.pm_wide.specs.Congruence.{Congruent}
 use Rattle.pm_wide.specs.Types.{Ty, Word, IsType, IsWord}
 use Rattle.pm_wide.proofs.Congruence.{same, turned, joined, sums, differences, products}
 use Rattle.pm_wide.proofs.Whole.{mul-add, mul_comm}
-use Rattle.pm_wide.proofs.Words.{word_congruent, word-below}
+use Rattle.pm_wide.specs.Residues.{residue}
+use Rattle.pm_wide.proofs.Residues.{residue_congruent, residue-below}
 use Rattle.pm_term.specs.Trees.{Tree, name, constant, node, Trees, nil, cons, IsWellTyped}
 use Rattle.bit_tables.specs.TableClass.{keeps_to_bits, IsConstant, AreConstant, HasConstant, IsBitwise, AreBitwise, IsBuiltBy, IsBuilt, AreBuilt}
-use Rattle.bit_tables.specs.WrappedWords.{wrapped, wrapped_unary, wrapped_binary, wrapped_operation, wrapped_word, wrapped_words}
+use Rattle.bit_tables.specs.WrappedWords.{wrapped_unary, wrapped_binary, wrapped_operation, wrapped_word, wrapped_words}
 use Rattle.bit_tables.proofs.Crossing.{Four, four_same, four_and, four_or, four_xor, four_not, crossed_sum}
 
 -- ---- sums modulo 2 ^ p
-
-pub low_congruent : (p : ℕ) (z : ℤ) → Congruent p (pos (wrapped p z)) z
-low_congruent p z = word_congruent (record { width = p; unsigned = true }) z
-
-pub wrapped-below : (p : ℕ) (z : ℤ) → wrapped p z < 2 ^ p
-wrapped-below p z = word-below (record { width = p; unsigned = true }) z
 
 -- a word below 2 ^ p, and the sum of two numbers that is that of two others
 pub record Balanced (p a b c d : ℕ) : Type 0 where
@@ -39,39 +34,39 @@ of_four p k a b c d h =
     record { first = h.first; sum = subst (Congruent p (pos a +ℤ pos b)) is (same p (pos a +ℤ pos b)) }
 
 -- words of whole numbers that balance
-of_whole : (p : ℕ) (a b c d : ℤ) → Congruent p (a +ℤ b) (c +ℤ d) → Balanced p (wrapped p a) (wrapped p b) (wrapped p c) (wrapped p d)
+of_whole : (p : ℕ) (a b c d : ℤ) → Congruent p (a +ℤ b) (c +ℤ d) → Balanced p (residue p a) (residue p b) (residue p c) (residue p d)
 of_whole p a b c d h = record {
-  first = wrapped-below p a;
-  sum = joined p _ (a +ℤ b) _ (sums p _ _ _ _ (low_congruent p a) (low_congruent p b))
-      (joined p _ (c +ℤ d) _ h (turned p _ _ (sums p _ _ _ _ (low_congruent p c) (low_congruent p d))));
+  first = residue-below p a;
+  sum = joined p _ (a +ℤ b) _ (sums p _ _ _ _ (residue_congruent p a) (residue_congruent p b))
+      (joined p _ (c +ℤ d) _ h (turned p _ _ (sums p _ _ _ _ (residue_congruent p c) (residue_congruent p d))));
 }
 
 exchanged : (p : ℕ) (l r m n : ℤ) → l ≡ m → r ≡ n → Congruent p m n → Congruent p l r
 exchanged p l r m n e f h = subst (λ x. Congruent p x r) (sym e) (subst (Congruent p m) (sym f) h)
 
 balanced_plus : (p a b c d x y z w : ℕ) → Balanced p a b c d → Balanced p x y z w
-    → Balanced p (wrapped p (pos a +ℤ pos x)) (wrapped p (pos b +ℤ pos y)) (wrapped p (pos c +ℤ pos z)) (wrapped p (pos d +ℤ pos w))
+    → Balanced p (residue p (pos a +ℤ pos x)) (residue p (pos b +ℤ pos y)) (residue p (pos c +ℤ pos z)) (residue p (pos d +ℤ pos w))
 balanced_plus p a b c d x y z w h g =
     of_whole p (pos a +ℤ pos x) (pos b +ℤ pos y) (pos c +ℤ pos z) (pos d +ℤ pos w)
     (exchanged p _ _ ((pos a +ℤ pos b) +ℤ (pos x +ℤ pos y)) ((pos c +ℤ pos d) +ℤ (pos z +ℤ pos w)) (omega (arith, ints)) (omega (arith, ints)) (sums p _ _ _ _ h.sum g.sum))
 
 balanced_minus : (p a b c d x y z w : ℕ) → Balanced p a b c d → Balanced p x y z w
-    → Balanced p (wrapped p (pos a -ℤ pos x)) (wrapped p (pos b -ℤ pos y)) (wrapped p (pos c -ℤ pos z)) (wrapped p (pos d -ℤ pos w))
+    → Balanced p (residue p (pos a -ℤ pos x)) (residue p (pos b -ℤ pos y)) (residue p (pos c -ℤ pos z)) (residue p (pos d -ℤ pos w))
 balanced_minus p a b c d x y z w h g =
     of_whole p (pos a -ℤ pos x) (pos b -ℤ pos y) (pos c -ℤ pos z) (pos d -ℤ pos w)
     (exchanged p _ _ ((pos a +ℤ pos b) -ℤ (pos x +ℤ pos y)) ((pos c +ℤ pos d) -ℤ (pos z +ℤ pos w)) (omega (arith, ints)) (omega (arith, ints)) (differences p _ _ _ _ h.sum g.sum))
 
 -- a product with one factor throughout, on either side
 balanced_left : (p f a b c d : ℕ) → Balanced p a b c d
-    → Balanced p (wrapped p (pos f *ℤ pos a)) (wrapped p (pos f *ℤ pos b)) (wrapped p (pos f *ℤ pos c)) (wrapped p (pos f *ℤ pos d))
+    → Balanced p (residue p (pos f *ℤ pos a)) (residue p (pos f *ℤ pos b)) (residue p (pos f *ℤ pos c)) (residue p (pos f *ℤ pos d))
 balanced_left p f a b c d h =
     of_whole p (pos f *ℤ pos a) (pos f *ℤ pos b) (pos f *ℤ pos c) (pos f *ℤ pos d)
     (exchanged p _ _ (pos f *ℤ (pos a +ℤ pos b)) (pos f *ℤ (pos c +ℤ pos d)) (sym (mul-add (pos f) (pos a) (pos b))) (sym (mul-add (pos f) (pos c) (pos d))) (products p _ _ _ _ (same p (pos f)) h.sum))
 
 balanced_right : (p f a b c d : ℕ) → Balanced p a b c d
-    → Balanced p (wrapped p (pos a *ℤ pos f)) (wrapped p (pos b *ℤ pos f)) (wrapped p (pos c *ℤ pos f)) (wrapped p (pos d *ℤ pos f))
+    → Balanced p (residue p (pos a *ℤ pos f)) (residue p (pos b *ℤ pos f)) (residue p (pos c *ℤ pos f)) (residue p (pos d *ℤ pos f))
 balanced_right p f a b c d h =
-    subst (λ (g : ℕ → ℤ). Balanced p (wrapped p (g a)) (wrapped p (g b)) (wrapped p (g c)) (wrapped p (g d))) (λ i n. mul_comm (pos f) (pos n) i) (balanced_left p f a b c d h)
+    subst (λ (g : ℕ → ℤ). Balanced p (residue p (g a)) (residue p (g b)) (residue p (g c)) (residue p (g d))) (λ i n. mul_comm (pos f) (pos n) i) (balanced_left p f a b c d h)
 
 -- ---- constants have one word
 

@@ -1,25 +1,22 @@
 -- The word of a term where its arithmetic wraps, signed or not.
-use Rattle.std.specs.Prelude.{ℕ, ◌-◌, ◌^◌, true, List, [], ◌∷◌, ℤ, pos, ◌+ℤ◌, ◌-ℤ◌, ◌*ℤ◌, bit_and, bit_or, bit_xor}
+use Rattle.std.specs.Prelude.{ℕ, ◌-◌, ◌^◌, List, [], ◌∷◌, ℤ, pos, ◌+ℤ◌, ◌-ℤ◌, ◌*ℤ◌, bit_and, bit_or, bit_xor}
 use Rattle.pm_ops.specs.declared.code.Code.{Code}
 use Rattle.pm_ops.specs.declared.code.Code.TheVariants.{Convert, Plus, Minus, Mult, Negate, BitAnd, BitIor, BitXor, BitNot}
-use Rattle.pm_wide.specs.Types.{Ty, word_of}
+use Rattle.pm_wide.specs.Residues.{residue}
+use Rattle.pm_wide.specs.Types.{Ty}
 use Rattle.pm_term.specs.Trees.{Tree, name, constant, node, Trees, nil, cons}
-
--- a whole number modulo 2 to the width
-abbrev pub wrapped : ℕ → ℤ → ℕ
-wrapped width z = word_of (record { width = width; unsigned = true }) z
 
 -- operations on the words of operands of that width
 abbrev pub wrapped_unary : ℕ → Code → ℕ → ℕ
 wrapped_unary width Convert a = a
-wrapped_unary width Negate a = wrapped width (pos 0 -ℤ pos a)
+wrapped_unary width Negate a = residue width (pos 0 -ℤ pos a)
 wrapped_unary width BitNot a = 2 ^ width - 1 - a
 wrapped_unary width _ a = 0
 
 abbrev pub wrapped_binary : ℕ → Code → ℕ → ℕ → ℕ
-wrapped_binary width Plus a b = wrapped width (pos a +ℤ pos b)
-wrapped_binary width Minus a b = wrapped width (pos a -ℤ pos b)
-wrapped_binary width Mult a b = wrapped width (pos a *ℤ pos b)
+wrapped_binary width Plus a b = residue width (pos a +ℤ pos b)
+wrapped_binary width Minus a b = residue width (pos a -ℤ pos b)
+wrapped_binary width Mult a b = residue width (pos a *ℤ pos b)
 wrapped_binary width BitAnd a b = bit_and a b
 wrapped_binary width BitIor a b = bit_or a b
 wrapped_binary width BitXor a b = bit_xor a b

@@ -55,7 +55,7 @@ fn operation_at(
 }
 
 /// An operation on one word.
-#[tactic(auto, using(crate::proofs::WordLemmas::negated, crate::proofs::WordLemmas::ones))]
+#[tactic(auto, using(pm_wide::proofs::Residues::negated, pm_wide::proofs::Residues::ones))]
 fn unary(code: Code, ty: IntType, a: u128) -> u128
     ensures { result ≡ wrapped_unary ty.width code a }
 {
@@ -68,7 +68,7 @@ fn unary(code: Code, ty: IntType, a: u128) -> u128
 }
 
 /// An operation on two words.
-#[tactic(auto, using(crate::proofs::WordLemmas::added, crate::proofs::WordLemmas::subtracted, crate::proofs::WordLemmas::multiplied))]
+#[tactic(auto, using(pm_wide::proofs::Residues::added, pm_wide::proofs::Residues::subtracted, pm_wide::proofs::Residues::multiplied))]
 fn binary(code: Code, ty: IntType, a: u128, b: u128) -> u128
     ensures { result ≡ wrapped_binary ty.width code a b }
 {

@@ -1,5 +1,6 @@
 pub mod Congruence
 pub mod Partial
+pub mod Residues
 pub mod Results
 pub mod Values
 pub mod Whole

@@ -1,5 +1,6 @@
 pub mod Congruence
 pub mod Operands
 pub mod Operations
+pub mod Residues
 pub mod Types
 pub mod Typing

@@ -1,0 +1,4 @@
+pub mod Atoms
+pub mod Forms
+pub mod Places
+pub mod RingForms
