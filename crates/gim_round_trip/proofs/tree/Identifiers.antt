@@ -5,7 +5,7 @@ use Rattle.std.specs.List.{list_all, list_any}
 use Rattle.std.specs.Fmt.{decimal}
 use Rattle.std.proofs.lemmas.Bool.{and_parts, and_from, or_cases, or_from, eqb-true, not_from_false, false_from_ne_true, false≢true}
 use Rattle.std.proofs.lemmas.List.Folds.{list_all-append}
-use Rattle.pm_wide.specs.Types.{same_type}
+use Rattle.pm_wide.specs.Types.{Ty}
 use Rattle.gim_ast.specs.declared.function.Function.{Function}
 use Rattle.gim_ast.specs.declared.function.Decl.{Decl}
 use Rattle.gim_ast.specs.declared.function.NameRow.{NameRow}
@@ -19,7 +19,7 @@ use Rattle.gim_text.proofs.NameLemmas.{no_parts_at}
 use Rattle.gim_making.proofs.Membership.{Has, has_map, has_left, has_right, all_has, none_from_has, any_has}
 use Rattle.gim_making.proofs.PartLemmas.{same_text_is}
 use Rattle.gim_round_trip.specs.ReadBack.{IsWithinLimits}
-use Rattle.gim_round_trip.proofs.tree.Rows.{name_facts}
+use Rattle.gim_round_trip.proofs.tree.Rows.{name_facts, HasBase, bare, of_param, of_local, base_of_row, declared_as}
 use Rattle.gim_lexer.proofs.LongestMatch.{number_is_word}
 
 -- ---- reserved words are no names
@@ -82,23 +82,16 @@ declared_is_word f well decl there =
     let idents = (and_parts _ _ distinct.0).1 in
     (and_parts (is_word_text decl.ident) (not (is_reserved decl.ident)) (all_has is_identifier (map ident_of (f.params ++ f.decls)) idents decl.ident (has_map ident_of (f.params ++ f.decls) decl there))).0
 
-base_declared : (f : Function) → IsWellFormed f → (row : NameRow) (decls : List Decl) → ((decl : Decl) → Has decls decl → Has (f.params ++ f.decls) decl) → declares_as row.base row.ty decls ≡ true → is_word_text row.base ≡ true
-base_declared f well row decls within h =
-    let found = any_has (λ (decl : Decl). same_text decl.ident row.base && same_type decl.ty row.ty) decls h in
-    let same : found.0.ident ≡ row.base = same_text_is found.0.ident row.base (and_parts (same_text found.0.ident row.base) (same_type found.0.ty row.ty) found.2).0 in
-    ap is_word_text (sym same) ∙ declared_is_word f well found.0 (within found.0 found.1)
+base_declared : (f : Function) (ident : List ℕ) (t : Ty) (decls : List Decl) → IsWellFormed f → ((decl : Decl) → Has decls decl → Has (f.params ++ f.decls) decl) → declares_as ident t decls ≡ true → is_word_text ident ≡ true
+base_declared f ident t decls well within h = let decl = declared_as ident t decls h in ap is_word_text (sym decl.2) ∙ declared_is_word f well decl.0 (within decl.0 decl.1)
 
 base_is_word : (f : Function) → IsWellFormed f → (row : NameRow) → base_holds f row ≡ true → IsBase row.base
 unfolding IsBase
-base_is_word f well row holds =
-    by (same_text row.base []) (same_text_is row.base []) holds where
-      by : (t : Bool) → (t ≡ true → row.base ≡ []) → cond t (not row.initial && declares_as (anonymous row.version) row.ty f.decls) (declares_as row.base row.ty f.params || (not row.initial && declares_as row.base row.ty f.decls)) ≡ true
-          → (row.base ≡ []) ⊎ (is_word_text row.base ≡ true)
-      by true nothing h = inl (nothing refl)
-      by false nothing h = elim (or_cases (declares_as row.base row.ty f.params) (not row.initial && declares_as row.base row.ty f.decls) h) [
-        | inl param ↦ inr (base_declared f well row f.params (λ decl there. has_left f.params f.decls decl there) param)
-        | inr local ↦ inr (base_declared f well row f.decls (λ decl there. has_right f.params f.decls decl there) (and_parts (not row.initial) (declares_as row.base row.ty f.decls) local).1)
-      ]
+base_is_word f well row holds = by (base_of_row f row holds) where
+  by : HasBase f row → (row.base ≡ []) ⊎ (is_word_text row.base ≡ true)
+  by (bare is plain declared) = inl is
+  by (of_param b base is declared) = inr (ap is_word_text is ∙ base_declared f (b ∷ base) row.ty f.params well (has_left f.params f.decls) declared)
+  by (of_local b base is plain declared) = inr (ap is_word_text is ∙ base_declared f (b ∷ base) row.ty f.decls well (has_right f.params f.decls) declared)
 
 -- the text of a name is an identifier
 pub name_is_identifier : (f : Function) (x : ℕ) (row : NameRow) → IsWellFormed f → IsWithinLimits f → row_of f x ≡ Some row → is_identifier (assigned_text f x) ≡ true

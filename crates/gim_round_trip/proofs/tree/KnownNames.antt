@@ -29,7 +29,7 @@ use Rattle.gim_making.proofs.Membership.{Has, has_left, has_right, has_map, any_
 use Rattle.gim_making.proofs.PartLemmas.{text_itself, same_text_is}
 use Rattle.gim_round_trip.specs.ReadBack.{IsWithinLimits}
 use Rattle.gim_round_trip.proofs.tree.DistinctTexts.{front_distinct, rest_distinct, not_again, apart}
-use Rattle.gim_round_trip.proofs.tree.Rows.{name_facts}
+use Rattle.gim_round_trip.proofs.tree.Rows.{name_facts, HasBase, bare, of_param, of_local, base_of_row, declared_as}
 use Rattle.gim_round_trip.proofs.tree.SmallNumbers.{number_of_decimal}
 use Rattle.gim_round_trip.proofs.tree.WellFormedParts.{each_operand_holds, operand_row}
 use Rattle.gim_round_trip.proofs.tree.Writes.{WritesWell, WritesDecl, WritesOperand}
@@ -38,13 +38,6 @@ use Rattle.gim_round_trip.proofs.tree.Writes.{WritesWell, WritesDecl, WritesOper
 
 idents_distinct : (f : Function) → IsWellFormed f → all_distinct same_text (map ident_of f.params ++ map ident_of f.decls) ≡ true
 idents_distinct f well = subst (λ l. all_distinct same_text l ≡ true) (map-append ident_of f.params f.decls) (and_parts _ _ (and_parts _ _ well.declarations).0).1
-
--- what is declared is the identifier and the type of a declaration
-pub declared_as : (ident : List ℕ) (t : Ty) (decls : List Decl) → declares_as ident t decls ≡ true → (decl : Decl) × Has decls decl × (decl.ident ≡ ident) × (decl.ty ≡ t)
-declared_as ident t decls h =
-    let r = any_has (λ (decl : Decl). same_text decl.ident ident && same_type decl.ty t) decls h in
-    let p = and_parts (same_text r.0.ident ident) (same_type r.0.ty t) r.2 in
-    (r.0, r.1, same_text_is r.0.ident ident p.0, same_type_is r.0.ty t p.1)
 
 -- distinct identifiers have the types of their declarations
 type_declared : (source : List ℕ) (trees : List DeclText) (decls : List Decl) → AllZip (WritesDecl source) trees decls → all_distinct same_text (map ident_of decls) ≡ true → (decl : Decl) → Has decls decl
@@ -99,20 +92,12 @@ module _ (source : List ℕ) (tree : FunctionText) (f : Function) (w : WritesWel
       none_declared source ident tree.params f.params w.writes.params (λ there. apart (map ident_of f.params) (map ident_of f.decls) (idents_distinct f w.well) ident there local)
 
   -- the declaration of a row's base, or of the whole name, gives its type
-  base_type : (row : NameRow) → base_holds f row ≡ true
-      → type_by_base (declarations_of source tree) (row.base ++ 95 ∷ decimal row.version) row.base ≡ Some row.ty
-  base_type row holds = by row.base holds where
-    by : (base : List ℕ) → cond (same_text base []) (not row.initial && declares_as (anonymous row.version) row.ty f.decls) (declares_as base row.ty f.params || (not row.initial && declares_as base row.ty f.decls)) ≡ true
-        → type_by_base (declarations_of source tree) (base ++ 95 ∷ decimal row.version) base ≡ Some row.ty
-    by [] h = local_type (anonymous row.version) row.ty (and_parts (not row.initial) (declares_as (anonymous row.version) row.ty f.decls) h).1
-    by (b ∷ base) h =
-        let ident = b ∷ base in
-        elim (or_cases (declares_as ident row.ty f.params) (not row.initial && declares_as ident row.ty f.decls) h) [
-          | inl param ↦ ap (λ o. option_or o (declared_type source ident tree.decls)) (param_type ident row.ty param)
-          | inr other ↦
-              let local = (and_parts (not row.initial) (declares_as ident row.ty f.decls) other).1 in
-              ap (λ o. option_or o (declared_type source ident tree.decls)) (no_param_type ident row.ty local) ∙ local_type ident row.ty local
-        ]
+  base_type : (row : NameRow) → base_holds f row ≡ true → type_by_base (declarations_of source tree) (row.base ++ 95 ∷ decimal row.version) row.base ≡ Some row.ty
+  base_type row holds = by (base_of_row f row holds) where
+    by : HasBase f row → type_by_base (declarations_of source tree) (row.base ++ 95 ∷ decimal row.version) row.base ≡ Some row.ty
+    by (bare is plain declared) = rw is (local_type (anonymous row.version) row.ty declared)
+    by (of_param b base is declared) = rw is (ap (λ o. option_or o (declared_type source (b ∷ base) tree.decls)) (param_type (b ∷ base) row.ty declared))
+    by (of_local b base is plain declared) = rw is (ap (λ o. option_or o (declared_type source (b ∷ base) tree.decls)) (no_param_type (b ∷ base) row.ty declared) ∙ local_type (b ∷ base) row.ty declared)
 
   -- ---- names
 

@@ -4,7 +4,7 @@ use Rattle.std.specs.Prelude.{◌==◌, ◌&&◌, ◌||◌, not, nat_lt}
 use Rattle.std.specs.List.{list_all, list_any, flat_map}
 use Rattle.std.specs.Option.{option_map_or, unwrap_or}
 use Rattle.std.specs.Fmt.{decimal}
-use Rattle.std.proofs.lemmas.Bool.{and_parts, eqb-true, eq-eqb, ltb-true, not-true, false≢true}
+use Rattle.std.proofs.lemmas.Bool.{and_parts, or_cases, eqb-true, eq-eqb, ltb-true, not-true, false≢true}
 use Rattle.std.proofs.lemmas.Fmt.{decimal_injective}
 use Rattle.pm_wide.specs.Types.{Ty, same_type}
 use Rattle.pm_wide.specs.declared.operand.Operand.{Operand}
@@ -19,7 +19,7 @@ use Rattle.gim_ast.specs.declared.function.NameRow.{NameRow}
 use Rattle.gim_ast.specs.Functions.{operands_of, assigned, targets_of, row_of}
 use Rattle.gim_ast.specs.Identifiers.{is_anonymous, anonymous}
 use Rattle.gim_ast.specs.Printing.{name_text, assigned_text, is_initial, type_of_name, base_of}
-use Rattle.gim_ast.specs.WellFormed.{IsWellFormed, same_text, all_distinct, rises, declares_as, base_holds, row_stands, initial_bases, names_hold, operand_holds, block_fits, phi_fits, stmt_fits, rhs_fits, numbers_of, is_among, is_assigned, blocks_hold, entry_has_no_phi, is_empty, predecessors, phi_blocks, phi_holds, type_of}
+use Rattle.gim_ast.specs.WellFormed.{IsWellFormed, ident_of, same_text, all_distinct, rises, declares_as, base_holds, row_stands, initial_bases, names_hold, operand_holds, block_fits, phi_fits, stmt_fits, rhs_fits, numbers_of, is_among, is_assigned, blocks_hold, entry_has_no_phi, is_empty, predecessors, phi_blocks, phi_holds, type_of}
 use Rattle.gim_ast.proofs.NumberLemmas.{number_below-decimal, decimal_is_number_text}
 use Rattle.gim_ast.specs.Removal.{is_used}
 use Rattle.gim_text.specs.Texts.{name_parts}
@@ -124,10 +124,35 @@ local_row f well decl there bare =
     let both = and_parts _ _ row.2 in
     (row.0, row.1, same_text_is row.0.base [] both.0, same_text_is (anonymous row.0.version) decl.ident both.1)
 
+-- ---- bases
+
+-- where the base of a row is declared, with its type: an anonymous name as a local, another base as a parameter or a local
+pub data HasBase (f : Function) (row : NameRow) : Type 0 where
+  bare : row.base ≡ [] → row.initial ≡ false → declares_as (anonymous row.version) row.ty f.decls ≡ true → HasBase f row
+  of_param : (b : ℕ) (base : List ℕ) → row.base ≡ b ∷ base → declares_as (b ∷ base) row.ty f.params ≡ true → HasBase f row
+  of_local : (b : ℕ) (base : List ℕ) → row.base ≡ b ∷ base → row.initial ≡ false → declares_as (b ∷ base) row.ty f.decls ≡ true → HasBase f row
+
+pub base_of_row : (f : Function) (row : NameRow) → base_holds f row ≡ true → HasBase f row
+base_of_row f row holds = by row.base refl holds where
+  by : (base : List ℕ) → row.base ≡ base
+      → cond (same_text base []) (not row.initial && declares_as (anonymous row.version) row.ty f.decls) (declares_as base row.ty f.params || (not row.initial && declares_as base row.ty f.decls)) ≡ true → HasBase f row
+  by [] is h = let p = and_parts (not row.initial) (declares_as (anonymous row.version) row.ty f.decls) h in bare is (not-true row.initial p.0) p.1
+  by (b ∷ base) is h = elim (or_cases (declares_as (b ∷ base) row.ty f.params) (not row.initial && declares_as (b ∷ base) row.ty f.decls) h) [
+    | inl param ↦ of_param b base is param
+    | inr local ↦ let p = and_parts (not row.initial) (declares_as (b ∷ base) row.ty f.decls) local in of_local b base is (not-true row.initial p.0) p.1
+  ]
+
+-- what is declared is the identifier and the type of a declaration
+pub declared_as : (ident : List ℕ) (t : Ty) (decls : List Decl) → declares_as ident t decls ≡ true → (decl : Decl) × Has decls decl × (decl.ident ≡ ident) × (decl.ty ≡ t)
+declared_as ident t decls h =
+    let r = any_has (λ (decl : Decl). same_text decl.ident ident && same_type decl.ty t) decls h in
+    let p = and_parts (same_text r.0.ident ident) (same_type r.0.ty t) r.2 in
+    (r.0, r.1, same_text_is r.0.ident ident p.0, same_type_is r.0.ty t p.1)
+
 -- a row without a base is declared as a local, and is no default definition
 pub bare_row : (f : Function) (row : NameRow) → base_holds f row ≡ true → row.base ≡ [] → (row.initial ≡ false) × (declares_as (anonymous row.version) row.ty f.decls ≡ true)
-bare_row f row holds bare =
-    let local = not row.initial && declares_as (anonymous row.version) row.ty f.decls in
-    let other = declares_as row.base row.ty f.params || (not row.initial && declares_as row.base row.ty f.decls) in
-    let p = and_parts (not row.initial) (declares_as (anonymous row.version) row.ty f.decls) (subst (λ b. cond b local other ≡ true) (ap (λ base. same_text base []) bare ∙ text_itself []) holds) in
-    (not-true row.initial p.0, p.1)
+bare_row f row holds empty = by (base_of_row f row holds) where
+  by : HasBase f row → (row.initial ≡ false) × (declares_as (anonymous row.version) row.ty f.decls ≡ true)
+  by (bare is plain declared) = (plain, declared)
+  by (of_param b base is declared) = absurd cc
+  by (of_local b base is plain declared) = absurd cc

@@ -27,9 +27,8 @@ use Rattle.gim_making.specs.Names.{is_default}
 use Rattle.gim_making.proofs.Membership.{Has, has_map, from_map, any_has, any_from_has}
 use Rattle.gim_making.proofs.PartLemmas.{same_text_is}
 use Rattle.gim_round_trip.proofs.tree.FunctionParts.{Part, parameter, local, head, jump, assigns, reads, parts_of, PartIs, part_is, local_there, name_there, operand_there}
-use Rattle.gim_round_trip.proofs.tree.KnownNames.{declared_as}
 use Rattle.gim_round_trip.proofs.tree.Occurrences.{Saying, a_local, an_assigned, an_operand, a_name, told, said, occurrences_say}
-use Rattle.gim_round_trip.proofs.tree.Rows.{name_facts, row_found, assigned_is_not_initial, used_is_assigned, local_row, bare_row}
+use Rattle.gim_round_trip.proofs.tree.Rows.{name_facts, row_found, assigned_is_not_initial, used_is_assigned, local_row, bare_row, declared_as}
 use Rattle.gim_round_trip.proofs.tree.SmallNumbers.{numbers_small, jumps_small}
 use Rattle.gim_round_trip.proofs.tree.WellFormedParts.{each_operand_holds, operand_row, assigned_row}
 use Rattle.gim_round_trip.proofs.tree.Writes.{WritesWell, NamesBlock}
