@@ -1,7 +1,7 @@
 -- What is known of each place of a name, where the rules on names are kept and versions are below the limit.
 use Rattle.std.proofs.Common.{◌≡◌, ◌⊎◌, ℕ, Bool, true, false, cond, Option, Some, None, option_map, List, [], ◌∷◌, ◌++◌, refl, sym, ap, subst, ◌∙◌, inl, inr}
 use Rattle.std.specs.Prelude.{◌||◌, not}
-use Rattle.std.specs.List.{list_any, cons_option, filter_map}
+use Rattle.std.specs.List.{list_any, filter_map}
 use Rattle.std.proofs.lemmas.Bool.{and_parts, and_from, false≢true}
 use Rattle.pm_wide.specs.Types.{Ty}
 use Rattle.gim_ast.specs.declared.function.NameRow.{NameRow}

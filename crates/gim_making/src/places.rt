@@ -1,7 +1,7 @@
 //! Where names stand in the text of a function.
 
-ghost use Rattle.std.specs.Prelude.{◌≡◌, IfOk};
-ghost use Rattle.std.specs.List.{filter_map};
+ghost use Rattle.std.specs.Prelude.{◌≡◌, [], ◌++◌, IfOk, OnOk};
+ghost use Rattle.std.specs.List.{filter_map, cons_option};
 ghost use Rattle.gim_making.specs.Names.{is_default, name_place, names_in};
 
 use gim_text::{FunctionText, Occurrence, Span, name_at, occurrences};
@@ -39,6 +39,16 @@ fn name_place(source: &[u8], occurrence: &Occurrence) -> Option<NamePlace>
     }
 }
 
+/// Puts a name, if there is one.
+fn push_name(places: &mut Vec<NamePlace>, place: Option<NamePlace>) -> Result<(), OutOfMemory>
+    ensures { OnOk result (places.new.items ≡ places.old.items ++ cons_option place []) }
+{
+    if let Some(place) = place {
+        places.push(place)?;
+    }
+    Ok(())
+}
+
 /// The names among what occurs.
 fn names_among(
     alloc: Global,
@@ -49,9 +59,7 @@ fn names_among(
 {
     let mut places = Vec::new(alloc);
     for occurrence in occurrences {
-        if let Some(place) = name_place(source, occurrence) {
-            places.push(place)?;
-        }
+        push_name(&mut places, name_place(source, occurrence))?;
     }
     Ok(places)
 }
