@@ -52,7 +52,8 @@ named_is_free : (text base ds : List ℕ) → name_parts text ≡ Some (base, ds
 named_is_free text base ds parts =
     let other : list_any (λ word. same_text word text) reserved_words ≡ false =
     none_from_has (λ word. same_text word text) reserved_words
-    (λ word there same. some_parts word base ds (ap name_parts (same_text_is word text same) ∙ parts) (all_has has_no_parts reserved_words none_is_named word there)) in
+    (λ word there same. some_parts word base ds (ap name_parts (same_text_is word text same) ∙ parts)
+        (all_has has_no_parts reserved_words none_is_named word there)) in
     or_from (list_any (λ word. same_text word text) reserved_words) (is_block_word text) other
     (false_from_ne_true (is_block_word text) (block_word_has_no_parts text base ds parts))
 
@@ -63,7 +64,8 @@ IsBase : List ℕ → Type 0
 IsBase base = (base ≡ []) ⊎ (is_word_text base ≡ true)
 
 versioned : (base ds : List ℕ) → list_all is_word_byte ds ≡ true → list_all is_word_byte base ≡ true → list_all is_word_byte (base ++ 95 ∷ ds) ≡ true
-versioned base ds digits h = list_all-append is_word_byte base (95 ∷ ds) ∙ and_from (list_all is_word_byte base) (list_all is_word_byte (95 ∷ ds)) h digits
+versioned base ds digits h = list_all-append is_word_byte base (95 ∷ ds)
+    ∙ and_from (list_all is_word_byte base) (list_all is_word_byte (95 ∷ ds)) h digits
 
 name_is_word : (base ds : List ℕ) → list_all is_word_byte ds ≡ true → IsBase base → is_word_text (base ++ 95 ∷ ds) ≡ true
 unfolding IsBase
@@ -80,10 +82,13 @@ declared_is_word f well decl there =
     let last = and_parts _ _ well.declarations in
     let distinct = and_parts _ _ last.0 in
     let idents = (and_parts _ _ distinct.0).1 in
-    (and_parts (is_word_text decl.ident) (not (is_reserved decl.ident)) (all_has is_identifier (map ident_of (f.params ++ f.decls)) idents decl.ident (has_map ident_of (f.params ++ f.decls) decl there))).0
+    (and_parts (is_word_text decl.ident) (not (is_reserved decl.ident))
+        (all_has is_identifier (map ident_of (f.params ++ f.decls)) idents decl.ident (has_map ident_of (f.params ++ f.decls) decl there))).0
 
-base_declared : (f : Function) (ident : List ℕ) (t : Ty) (decls : List Decl) → IsWellFormed f → ((decl : Decl) → Has decls decl → Has (f.params ++ f.decls) decl) → declares_as ident t decls ≡ true → is_word_text ident ≡ true
-base_declared f ident t decls well within h = let decl = declared_as ident t decls h in ap is_word_text (sym decl.2) ∙ declared_is_word f well decl.0 (within decl.0 decl.1)
+base_declared : (f : Function) (ident : List ℕ) (t : Ty) (decls : List Decl) → IsWellFormed f
+    → ((decl : Decl) → Has decls decl → Has (f.params ++ f.decls) decl) → declares_as ident t decls ≡ true → is_word_text ident ≡ true
+base_declared f ident t decls well within h = let decl = declared_as ident t decls h in ap is_word_text (sym decl.2)
+    ∙ declared_is_word f well decl.0 (within decl.0 decl.1)
 
 base_is_word : (f : Function) → IsWellFormed f → (row : NameRow) → base_holds f row ≡ true → IsBase row.base
 unfolding IsBase
@@ -91,13 +96,17 @@ base_is_word f well row holds = by (base_of_row f row holds) where
   by : HasBase f row → (row.base ≡ []) ⊎ (is_word_text row.base ≡ true)
   by (bare is plain declared) = inl is
   by (of_param b base is declared) = inr (ap is_word_text is ∙ base_declared f (b ∷ base) row.ty f.params well (has_left f.params f.decls) declared)
-  by (of_local b base is plain declared) = inr (ap is_word_text is ∙ base_declared f (b ∷ base) row.ty f.decls well (has_right f.params f.decls) declared)
+  by (of_local b base is plain declared) = inr (ap is_word_text is
+      ∙ base_declared f (b ∷ base) row.ty f.decls well (has_right f.params f.decls) declared)
 
 -- the text of a name is an identifier
-pub name_is_identifier : (f : Function) (x : ℕ) (row : NameRow) → IsWellFormed f → IsWithinLimits f → row_of f x ≡ Some row → is_identifier (assigned_text f x) ≡ true
+pub name_is_identifier : (f : Function) (x : ℕ) (row : NameRow) → IsWellFormed f → IsWithinLimits f → row_of f x ≡ Some row
+    → is_identifier (assigned_text f x) ≡ true
 name_is_identifier f x row well limits found =
     let facts = name_facts f x row well limits found in
     let small : x < 2 ^ 64 = omega (arith, facts.small) in
     let digits = number_is_word (decimal x) (decimal_is_number_text x small) in
-    let word : is_word_text (assigned_text f x) ≡ true = ap is_word_text facts.text ∙ name_is_word row.base (decimal x) digits (base_is_word f well row facts.base) in
-    and_from (is_word_text (assigned_text f x)) (not (is_reserved (assigned_text f x))) word (not_from_false (is_reserved (assigned_text f x)) (named_is_free (assigned_text f x) row.base (decimal x) facts.parts))
+    let word : is_word_text (assigned_text f x) ≡ true = ap is_word_text facts.text
+        ∙ name_is_word row.base (decimal x) digits (base_is_word f well row facts.base) in
+    and_from (is_word_text (assigned_text f x)) (not (is_reserved (assigned_text f x))) word
+        (not_from_false (is_reserved (assigned_text f x)) (named_is_free (assigned_text f x) row.base (decimal x) facts.parts))
