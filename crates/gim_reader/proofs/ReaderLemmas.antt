@@ -24,9 +24,9 @@ use Rattle.gim_making.specs.Types.{types_fault}
 use Rattle.gim_making.specs.Judged.{IsSound}
 use Rattle.gim_making.proofs.Sound.{sound_files}
 use Rattle.gim_lexer.proofs.NumberTexts.{tokens_mean}
-use Rattle.gim_lexer.proofs.Placing.{tokens_in_order}
+use Rattle.gim_lexer.proofs.Placing.{tokens_in_order, tokens_stand}
 use Rattle.gim_reader.proofs.OneFile.{stand_once}
-use Rattle.gim_reader.proofs.WrittenLemmas.{few_tokens, file_written}
+use Rattle.gim_reader.proofs.WrittenLemmas.{few_tokens, all_sure, IsKnown, file_known, file_written}
 use Rattle.gim_reader.specs.Files.{file_limit, rules_fault, FromTokens, of_syntax, of_rules, of_lexing, of_tokens, IsRefusal, by_memory, by_fault, IsTokensRefusal, tokens_by_memory, tokens_by_fault}
 
 -- ---- from tokens
@@ -79,6 +79,11 @@ second_none : (a b : Option GimpleFault) → or_fault a b ≡ None → b ≡ Non
 second_none None b e = e
 second_none (Some fault) b e = absurd cc
 
+pub known_trees : (source : List ℕ) (tokens : List Token) (trees : List FunctionText) → length source ≤ file_limit → AreTokens source tokens → SpellsFile trees tokens → AllByRecursion (IsKnown source) trees
+known_trees source tokens trees within are spelled =
+    let few = few_tokens 0 (length source) tokens (tokens_in_order source tokens are) in
+    file_known source tokens trees (all_sure source tokens (tokens_mean source tokens are) (tokens_stand source tokens are)) spelled (omega (arith, few, within))
+
 pub sound : (source : List ℕ) (tokens : List Token) (trees : List FunctionText) → length source ≤ file_limit → AreTokens source tokens → SpellsFile trees tokens → rules_fault source trees ≡ None → IsSound source trees
 unfolding rules_fault
 sound source tokens trees within are spelled kept =
@@ -88,9 +93,8 @@ sound source tokens trees within are spelled kept =
     let limits = limits_fault source trees in
     let after_names = second_none names (or_fault shape (or_fault types limits)) kept in
     let after_shape = second_none shape (or_fault types limits) after_names in
-    let few = few_tokens 0 (length source) tokens (tokens_in_order source tokens are) in
     record {
-      written = file_written source tokens trees (tokens_mean source tokens are) spelled (omega (arith, few, within));
+      written = file_written source trees (known_trees source tokens trees within are spelled);
       names = first_none names (or_fault shape (or_fault types limits)) kept;
       shape = first_none shape (or_fault types limits) after_names;
       types = first_none types limits after_shape;

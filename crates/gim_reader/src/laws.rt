@@ -1,6 +1,6 @@
 //! What holds of all files.
 
-ghost use Rattle.std.specs.Prelude.{◌≡◌, ℕ, List};
+ghost use Rattle.std.specs.Prelude.{◌≡◌, ◌+◌, ◌≤◌, ℕ, List, length};
 ghost use Rattle.gim_ast.specs.declared.function.Function.{Function};
 ghost use Rattle.gim_text.specs.declared.fault.GimpleFault.{GimpleFault};
 ghost use Rattle.gim_reader.specs.Files.{IsFile, IsFileFault};
@@ -18,4 +18,9 @@ pub fn one_fault()
 /// A file that stands for functions has no fault.
 pub fn no_fault()
     ensures { (source : List ℕ) (fs : List Function) (fault : GimpleFault) → IsFile source fs → IsFileFault source fault → ⊥ }
+{}
+
+/// The fault of a file has its place in the file.
+pub fn within()
+    ensures { (source : List ℕ) (fault : GimpleFault) → IsFileFault source fault → fault.at + fault.len ≤ length source }
 {}
