@@ -64,7 +64,7 @@ module _ (source : List ℕ) (tree : FunctionText) (names : List NameRow) (kept 
   unfolding made
   made_within =
       let count : length (map (block_of (declarations_of source tree)) tree.blocks) ≡ length tree.blocks = length-map tree.blocks
-          (block_of (declarations_of source tree)) in
+      (block_of (declarations_of source tree)) in
       let limit : length tree.blocks ≤ 2000 = limits.blocks in
       record {
         blocks = omega (arith, count, limit);
@@ -85,7 +85,7 @@ read_may_be_printed source fs file short =
     let stand = file.from_tokens.stand in
     let rules = sound source file.tokens trees file.within file.are_tokens file.from_tokens.spelled file.from_tokens.kept in
     let names : map (function_text source) trees ≡ function_names fs = same_images (StandsFor source) (function_text source)
-        (λ (f : Function). f.name) trees fs (λ t f s. name_stands source t f s) stand in
+    (λ (f : Function). f.name) trees fs (λ t f s. name_stands source t f s) stand in
     record {
       well_formed = sound_files source trees fs rules stand;
       within = all_by IsWithinLimits fs (λ f there.

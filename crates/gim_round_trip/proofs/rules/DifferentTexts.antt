@@ -30,7 +30,7 @@ firsts_distinct (t ∷ ts) = by (is_among ts t) refl (firsts_distinct ts) where
   by false e later =
       and_from (not (list_any (same_text t) (firsts ts))) (all_distinct same_text (firsts ts))
       (ap not (none_from_has (same_text t) (firsts ts) (λ x there same. false≢true
-          (sym e ∙ any_from_has (same_text t) ts x (from_firsts ts x there) same)))) later
+      (sym e ∙ any_from_has (same_text t) ts x (from_firsts ts x there) same)))) later
 
 firsts_count : (ts : List (List ℕ)) → length (firsts ts) ≡ different ts
 firsts_count [] = refl
@@ -50,7 +50,7 @@ pub few_different : (known texts : List (List ℕ)) → list_all (is_among known
 few_different known texts all =
     let chosen : length (firsts texts) ≤ different known =
     chosen_are_few known (firsts texts) (firsts_distinct texts)
-        (all_from_has (is_among known) (firsts texts) (λ x there. all_has (is_among known) texts all x (from_firsts texts x there))) in
+    (all_from_has (is_among known) (firsts texts) (λ x there. all_has (is_among known) texts all x (from_firsts texts x there))) in
     let count = firsts_count texts in
     let most = different_most known in
     omega arith

@@ -25,8 +25,10 @@ never_within : {X : Type 0} (broken : List X → X → Bool) (all : List X)
     → ((before : List X) (x : X) → ((y : X) → Has before y → Has all y) → Has all x → broken before x ≡ false)
     → (before xs : List X) → ((y : X) → Has before y → Has all y) → ((y : X) → Has xs y → Has all y) → NeverBy broken before xs
 never_within broken all kept before [] within rest = tt
-never_within broken all kept before (x ∷ xs) within rest = (kept before x within (rest x (inl refl)),
-    never_within broken all kept (x ∷ before) xs grown (λ y there. rest y (inr there))) where
+never_within broken all kept before (x ∷ xs) within rest = (
+  kept before x within (rest x (inl refl)),
+  never_within broken all kept (x ∷ before) xs grown (λ y there. rest y (inr there)),
+) where
   grown : (y : _) → Has (x ∷ before) y → Has all y
   grown y (inl e) = subst (Has all) e (rest x (inl refl))
   grown y (inr there) = within y there
@@ -85,13 +87,13 @@ pub never_both : {M : Type 0} (one other : M → Option (List ℕ)) (all : List 
     → NeverBy (λ b m. stands (other m) (filter_map one b)) [] all
 never_both one other all apart = never_among (λ b m. stands (other m) (filter_map one b)) all
     (λ before m within there. by before m within there (other m) refl) where
-  by : (before : List _) (m : _) → ((n : _) → Has before n → Has all n) → Has all m → (o : Option (List ℕ)) → other m ≡ o
-      → stands o (filter_map one before) ≡ false
-  by before m within there None is = refl
-  by before m within there (Some y) is =
-      none_from_has (same_text y) (filter_map one before) (λ x said same.
-      let n = from_said one before x said in
-      apart x y (has_said one all n.0 x (within n.0 n.1) n.2) (has_said other all m y there is) (same_text_is y x same))
+      by : (before : List _) (m : _) → ((n : _) → Has before n → Has all n) → Has all m → (o : Option (List ℕ)) → other m ≡ o
+          → stands o (filter_map one before) ≡ false
+      by before m within there None is = refl
+      by before m within there (Some y) is =
+          none_from_has (same_text y) (filter_map one before) (λ x said same.
+          let n = from_said one before x said in
+          apart x y (has_said one all n.0 x (within n.0 n.1) n.2) (has_said other all m y there is) (same_text_is y x same))
 
 -- pairs of one first part have one second part
 pub never_differs : {M : Type 0} (says : M → Option (List ℕ × List ℕ)) (all : List M)
@@ -99,15 +101,15 @@ pub never_differs : {M : Type 0} (says : M → Option (List ℕ × List ℕ)) (a
     → NeverBy (λ b m. differs (says m) (filter_map says b)) [] all
 never_differs says all agree = never_among (λ b m. differs (says m) (filter_map says b)) all
     (λ before m within there. by before m within there (says m) refl) where
-  alike : (p q : List ℕ × List ℕ) → (p.0 ≡ q.0 → p.1 ≡ q.1) → has_other_second p.0 p.1 q ≡ true → ⊥
-  alike p q one other =
-      let h = and_parts (same_text p.0 q.0) (not (same_text p.1 q.1)) other in
-      false≢true (ap not (sym (ap (same_text p.1) (sym (one (same_text_is p.0 q.0 h.0))) ∙ text_itself p.1)) ∙ h.1)
+      alike : (p q : List ℕ × List ℕ) → (p.0 ≡ q.0 → p.1 ≡ q.1) → has_other_second p.0 p.1 q ≡ true → ⊥
+      alike p q one other =
+          let h = and_parts (same_text p.0 q.0) (not (same_text p.1 q.1)) other in
+          false≢true (ap not (sym (ap (same_text p.1) (sym (one (same_text_is p.0 q.0 h.0))) ∙ text_itself p.1)) ∙ h.1)
 
-  by : (before : List _) (m : _) → ((n : _) → Has before n → Has all n) → Has all m → (o : Option (List ℕ × List ℕ)) → says m ≡ o
-      → differs o (filter_map says before) ≡ false
-  by before m within there None is = refl
-  by before m within there (Some p) is =
-      none_from_has (has_other_second p.0 p.1) (filter_map says before) (λ q said other.
-      let n = from_said says before q said in
-      alike p q (agree p q (has_said says all m p there is) (has_said says all n.0 q (within n.0 n.1) n.2)) other)
+      by : (before : List _) (m : _) → ((n : _) → Has before n → Has all n) → Has all m → (o : Option (List ℕ × List ℕ)) → says m ≡ o
+          → differs o (filter_map says before) ≡ false
+      by before m within there None is = refl
+      by before m within there (Some p) is =
+          none_from_has (has_other_second p.0 p.1) (filter_map says before) (λ q said other.
+          let n = from_said says before q said in
+          alike p q (agree p q (has_said says all m p there is) (has_said says all n.0 q (within n.0 n.1) n.2)) other)

@@ -60,13 +60,13 @@ first_of_name source before tree new = ap (λ b. cond b (Some (fault_at Redefine
 
 no_function_fault : (source : List ℕ) (before trees : List FunctionText) (fs : List Function) → AllZip (WritesWell source) trees fs
     → NeverBy (λ b tree. stands (name_said source tree) (filter_map (name_said source) b)) before trees
-        → first_by (function_fault source) before trees ≡ None
+    → first_by (function_fault source) before trees ≡ None
 no_function_fault source before [] fs written new = refl
 no_function_fault source before (tree ∷ trees) [] written new = absurd written
 no_function_fault source before (tree ∷ trees) (f ∷ fs) written new =
     none_of_two (function_fault source before tree) (first_by (function_fault source) (tree ∷ before) trees)
     (none_of_two (second_function source before tree) (occurrences_fault source (occurrences_of tree)) (first_of_name source before tree new.0)
-        (occurrences_sound source tree f written.0))
+    (occurrences_sound source tree f written.0))
     (no_function_fault source (tree ∷ before) trees fs written.1 new.1)
 
 pub names_sound : (source : List ℕ) (trees : List FunctionText) (fs : List Function) → AllZip (WritesWell source) trees fs
@@ -74,5 +74,5 @@ pub names_sound : (source : List ℕ) (trees : List FunctionText) (fs : List Fun
 unfolding names_fault
 names_sound source trees fs written distinct =
     let names : filter_map (name_said source) trees ≡ function_names fs = each_says (function_text source) trees
-        ∙ same_images (WritesWell source) (function_text source) (λ (f : Function). f.name) trees fs (λ tree f w. w.writes.name) written in
+    ∙ same_images (WritesWell source) (function_text source) (λ (f : Function). f.name) trees fs (λ tree f w. w.writes.name) written in
     no_function_fault source [] trees fs written (never_twice (name_said source) trees (ap (all_distinct same_text) names ∙ distinct))

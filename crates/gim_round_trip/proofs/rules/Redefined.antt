@@ -37,7 +37,7 @@ one_default : (rows : List NameRow) → all_distinct same_text (initial_bases ro
     → a.initial ≡ true → b.initial ≡ true → a.base ≡ b.base → a ≡ b
 one_default rows distinct a b p q first second bases = one_of (λ (row : NameRow). cond row.initial (row.base ∷ []) []) rows distinct a b b.base p q
     (subst (λ i. Has (cond i (a.base ∷ []) []) b.base) (sym first) (inl bases))
-        (subst (λ i. Has (cond i (b.base ∷ []) []) b.base) (sym second) (inl refl))
+    (subst (λ i. Has (cond i (b.base ∷ []) []) b.base) (sym second) (inl refl))
 
 -- ---- what an occurrence says of versions, by the name that stands there
 
@@ -132,17 +132,17 @@ module _ (source : List ℕ) (tree : FunctionText) (f : Function) (w : WritesWel
   never_declared_again =
       let idents = ap (all_distinct same_text) (declared_said source tree f w) ∙ (and_parts _ _ (and_parts _ _ w.well.declarations).0).1 in
       let numbers = ap (all_distinct same_text) (numbers_said source tree f w) ∙ distinct_decimals (numbers_of f) (numbers_small f w.within)
-          ∙ (of_blocks f w.well).distinct in
+      ∙ (of_blocks f w.well).distinct in
       never_either (λ b o. stands (declared_text source o) (filter_map (declared_text source) b))
-          (λ b o. stands (block_number source o) (filter_map (block_number source) b)) [] (occurrences_of tree)
+      (λ b o. stands (block_number source o) (filter_map (block_number source) b)) [] (occurrences_of tree)
       (never_twice (declared_text source) (occurrences_of tree) idents) (never_twice (block_number source) (occurrences_of tree) numbers)
 
   never_assigned_again : NeverBy (is_assigned_again source) [] (occurrences_of tree)
   never_assigned_again =
       let small : AreSmallNumbers (assigned f) = λ x there. let row = assigned_row f w.well x there in
-          (name_facts f x row.0 w.well w.within row.1).small in
+      (name_facts f x row.0 w.well w.within row.1).small in
       never_twice (assigned_version source) (occurrences_of tree)
-          (ap (all_distinct same_text) (versions_said source tree f w) ∙ distinct_decimals (assigned f) small ∙ (of_names f w.well).assigned_once)
+      (ap (all_distinct same_text) (versions_said source tree f w) ∙ distinct_decimals (assigned f) small ∙ (of_names f w.well).assigned_once)
 
   never_other_base : NeverBy (has_other_base source) [] (occurrences_of tree)
   never_other_base = never_differs (version_base source) (occurrences_of tree) (λ p q first second same.
@@ -155,18 +155,18 @@ module _ (source : List ℕ) (tree : FunctionText) (f : Function) (w : WritesWel
   never_other_mark =
       let ms = occurrences_of tree in
       never_either (λ b o. stands (default_version source o) (filter_map (plain_version source) b))
-          (λ b o. stands (plain_version source o) (filter_map (default_version source) b)) [] ms
+      (λ b o. stands (plain_version source o) (filter_map (default_version source) b)) [] ms
       (never_both (plain_version source) (default_version source) ms
-          (λ x y first second same. marks_apart x y (plain_said x first) (marked_said y second) (sym same)))
+      (λ x y first second same. marks_apart x y (plain_said x first) (marked_said y second) (sym same)))
       (never_both (default_version source) (plain_version source) ms
-          (λ x y first second same. marks_apart y x (plain_said y second) (marked_said x first) same))
+      (λ x y first second same. marks_apart y x (plain_said y second) (marked_said x first) same))
 
   never_other_default : NeverBy (has_other_default source) [] (occurrences_of tree)
   never_other_default = never_differs (base_default source) (occurrences_of tree) (λ p q first second same.
       let a = default_said p first in
       let b = default_said q second in
       let rows = one_default f.names (of_names f w.well).initials a.0 b.0 a.1 b.1 a.2 b.2
-          (sym (ap (λ (r : List ℕ × List ℕ). r.0) a.3) ∙ same ∙ ap (λ (r : List ℕ × List ℕ). r.0) b.3) in
+      (sym (ap (λ (r : List ℕ × List ℕ). r.0) a.3) ∙ same ∙ ap (λ (r : List ℕ × List ℕ). r.0) b.3) in
       ap (λ (r : List ℕ × List ℕ). r.1) a.3 ∙ ap (λ (row : NameRow). decimal row.version) rows ∙ sym (ap (λ (r : List ℕ × List ℕ). r.1) b.3))
 
   pub never_redefined : NeverBy (is_redefined source) [] (occurrences_of tree)

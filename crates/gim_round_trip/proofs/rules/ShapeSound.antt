@@ -115,10 +115,10 @@ predecessors_named source f n small (tree ∷ trees) [] targets written = absurd
 predecessors_named source f n small (tree ∷ trees) (block ∷ blocks) targets written =
     let jumps : jumps_to source (decimal n) tree ≡ list_any (λ to. to == n) (targets_of block.end) =
     any_image (same_text (decimal n)) (named_at source) (jumps_of tree)
-        ∙ ap (list_any (same_text (decimal n))) (jumps_named source f tree.end block.end written.0.end)
-        ∙ among_decimals (targets_of block.end) n (targets block (inl refl)) small in
+    ∙ ap (list_any (same_text (decimal n))) (jumps_named source f tree.end block.end written.0.end)
+    ∙ among_decimals (targets_of block.end) n (targets block (inl refl)) small in
     rw jumps (by (list_any (λ to. to == n) (targets_of block.end))
-        (predecessors_named source f n small trees blocks (λ b there. targets b (inr there)) written.1)) where
+    (predecessors_named source f n small trees blocks (λ b there. targets b (inr there)) written.1)) where
       by : (b : Bool) → map (text_of source) (predecessors source trees (decimal n)) ≡ map decimal (flat_map (number_if_jumps n) blocks)
           → map (text_of source) (map (λ (t : BlockText). t.number) (cond b (tree ∷ filter (jumps_to source (decimal n)) trees) (filter (jumps_to source (decimal n)) trees))) ≡ map decimal (cond b (block.number ∷ []) [] ++ flat_map (number_if_jumps n) blocks)
       by true rest = rw (written.0.number, rest) refl
@@ -135,12 +135,12 @@ module _ (source : List ℕ) (tree : FunctionText) (f : Function) (w : WritesWel
     block_jumps_free : first_fault (map (jump_fault source (shape.is_among (shape.numbers_of source tree.blocks))) (jumps_of text)) ≡ None
     block_jumps_free =
         let lead : list_all (λ n. ast.is_among n (numbers_of f)) (targets_of block.end) ≡ true = all_from_has (λ n. ast.is_among n (numbers_of f))
-            (targets_of block.end) (λ n here.
+        (targets_of block.end) (λ n here.
         all_has (λ m. ast.is_among m (numbers_of f)) (flat_map (λ (b : Block). targets_of b.end) f.blocks) (of_blocks f w.well).targets n
-            (has_flat (λ (b : Block). targets_of b.end) f.blocks block n there here)) in
+        (has_flat (λ (b : Block). targets_of b.end) f.blocks block n there here)) in
         jumps_free source (shape.is_among (shape.numbers_of source tree.blocks)) (jumps_of text)
         (ap (list_all (shape.is_among (shape.numbers_of source tree.blocks))) (jumps_named source f text.end block.end written.end)
-            ∙ ap (λ ts. list_all (shape.is_among ts) (map decimal (targets_of block.end))) numbers_named
+        ∙ ap (λ ts. list_all (shape.is_among ts) (map decimal (targets_of block.end))) numbers_named
         ∙ all_among_decimals (numbers_of f) (targets_of block.end) (numbers_small f w.within) (targets_small f w.within w.well block there) ∙ lead)
 
     -- the arguments of a phi fit
@@ -152,12 +152,18 @@ module _ (source : List ℕ) (tree : FunctionText) (f : Function) (w : WritesWel
         let small_here = predecessors_small f w.within block.number in
         let small_args = phi_blocks_small f w.within w.well block there phi among in
         let named : named_by_args source args ≡ map decimal mine = images_are_decimals (WritesArg source f)
-            (λ (arg : ArgText). named_at source arg.from) (λ (x : ℕ × Operand). x.0) (λ a x h. h.0) args phi.args written_args in
+        (λ (arg : ArgText). named_at source arg.from) (λ (x : ℕ × Operand). x.0) (λ a x h. h.0) args phi.args written_args in
         let once : is_each_once (map decimal wanted) (map decimal mine) ≡ true =
-        rw (distinct_decimals mine small_args, rules.distinct, all_among_decimals wanted mine small_here small_args, rules.only,
-            all_among_decimals mine wanted small_args small_here, rules.each) refl in
+        rw (
+          distinct_decimals mine small_args,
+          rules.distinct,
+          all_among_decimals wanted mine small_here small_args,
+          rules.only,
+          all_among_decimals mine wanted small_args small_here,
+          rules.each,
+        ) refl in
         and_from (has_args args) (is_each_once (map (text_of source) from) (named_by_args source args))
-            (some_args source f args phi.args written_args rules.some)
+        (some_args source f args phi.args written_args rules.some)
         (ap (λ ts. is_each_once ts (named_by_args source args)) here ∙ ap (is_each_once (map decimal wanted)) named ∙ once)
 
     block_free : (may : Bool) → (may ≡ false → is_empty block.phis ≡ true) → first_fault (faults_among source tree.blocks may text) ≡ None
@@ -166,14 +172,14 @@ module _ (source : List ℕ) (tree : FunctionText) (f : Function) (w : WritesWel
         let here : map (text_of source) from ≡ map decimal (ast.predecessors f block.number) =
         ap (λ t. map (text_of source) (predecessors source tree.blocks t)) written.number
         ∙ predecessors_named source f block.number (number_small f w.within block there) tree.blocks f.blocks
-            (targets_small f w.within w.well) w.writes.blocks in
+        (targets_small f w.within w.well) w.writes.blocks in
         let parts_free : first_fault (item_faults source from may text.items) ≡ None =
         ap (λ l. first_fault (item_faults source from may l)) written.in_order
-            ∙ items_free source f from may written.phi_items written.stmt_items block.phis block.stmts written.phis written.stmts
-            (phi_args_fit from here) entry in
+        ∙ items_free source f from may written.phi_items written.stmt_items block.phis block.stmts written.phis written.stmts
+        (phi_args_fit from here) entry in
         rw (end_is_there source f text.head text.end block.end written.end)
         (none_joined (item_faults source from may text.items) (map (jump_fault source (shape.is_among (shape.numbers_of source tree.blocks)))
-            (jumps_of text)) parts_free block_jumps_free)
+        (jumps_of text)) parts_free block_jumps_free)
 
 abbrev EachFree : List ℕ → Function → List BlockText → List Block → Type 0
 EachFree source f trees blocks = (text : BlockText) (block : Block) → Has blocks block → WritesBlock source f text block → (may : Bool)
@@ -187,7 +193,7 @@ body_free source f close [] (block ∷ blocks) written entry free = absurd writt
 body_free source f close (tree ∷ trees) (block ∷ blocks) written entry free =
     let all = tree ∷ trees in
     none_joined (faults_among source all false tree) (flat_map (faults_among source all true) trees)
-        (free tree block (inl refl) written.0 false (λ e. entry))
+    (free tree block (inl refl) written.0 false (λ e. entry))
     (none_of_each (faults_among source all true) trees (λ t there.
     let r = beside_first (WritesBlock source f) trees blocks written.1 t there in
     free t r.0 (inr r.1) r.2 true (λ e. absurd (false≢true (sym e)))))

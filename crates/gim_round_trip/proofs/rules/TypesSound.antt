@@ -88,7 +88,7 @@ module _ (source : List ℕ) (tree : FunctionText) (f : Function) (w : WritesWel
         let typed = operand_type arg.0.operand x.0.1 x.2.1 (phi_operand f block there phi here x.0 x.1) in
         let fits : same_type (type_of_operand known arg.0.operand) (type_of_name known name) ≡ true =
         ap (λ u. same_type u (type_of_name known name)) typed ∙ ap (same_type (type_of x.0.1)) t
-            ∙ all_has (λ (a : ℕ × Operand). same_type (type_of a.1) row.0.ty) phi.args row.2 x.0 x.1 in
+        ∙ all_has (λ (a : ℕ × Operand). same_type (type_of a.1) row.0.ty) phi.args row.2 x.0 x.1 in
         sym arg.2 ∙ ap (λ b. mismatch b arg.0.from) fits
 
     stmt_kept : (item : ItemText) (stmt : Stmt) → Has block.stmts stmt → WritesStmt source f item stmt → AreKept (places_of_item known item)
@@ -100,7 +100,7 @@ module _ (source : List ℕ) (tree : FunctionText) (f : Function) (w : WritesWel
         let form : WritesForm source f row.0.ty right.form stmt.rhs = subst (λ u. WritesForm source f u right.form stmt.rhs) named written.1 in
         let is = rhs_is source tree f w row.0.ty right.form stmt.rhs form (stmt_operand f block there stmt here) in
         kept_one (form_fits known (type_of_name known name) right.form) right.start
-            (ap (λ u. form_fits known u right.form) t ∙ form_kept source f known row.0.ty right.form stmt.rhs form is row.2)
+        (ap (λ u. form_fits known u right.form) t ∙ form_kept source f known row.0.ty right.form stmt.rhs form is row.2)
 
     end_kept : (text : Option EndText) (end : End) → WritesEnd source f text end
         → ((x : Operand) → Has (operands_of_end end) x → Has (operands_of f) x) → end_fits f end ≡ true
@@ -110,10 +110,10 @@ module _ (source : List ℕ) (tree : FunctionText) (f : Function) (w : WritesWel
         let first = operand_type a x written.1 (inside x (inl refl)) in
         let second = operand_type b y written.2 (inside y (inr (inl refl))) in
         kept_one (is_comparison_code code && same_type (type_of_operand known a) (type_of_operand known b)) (start_of a)
-            (rw (written.0, first, second) fits)
+        (rw (written.0, first, second) fits)
     end_kept (Some (Return a)) (ends.Return x) written inside fits =
         kept_one (same_type (type_of_operand known a) tree.result) (start_of a)
-            (rw (operand_type a x written (inside x (inl refl)), w.writes.result) fits)
+        (rw (operand_type a x written (inside x (inl refl)), w.writes.result) fits)
     end_kept text end written inside fits = absurd written
 
     block_kept : (text : BlockText) → WritesBlock source f text block → AreKept (places_of_block known tree.result text)
@@ -150,4 +150,4 @@ pub trees_stand : (source : List ℕ) (trees : List FunctionText) (fs : List Fun
     → AllZip (StandsFor source) trees fs
 trees_stand source trees fs written =
     paired_by (WritesWell source) (StandsFor source) trees fs written
-        (λ tree f w. record { whole = function_is source tree f w; names = names_stand source tree f w })
+    (λ tree f w. record { whole = function_is source tree f w; names = names_stand source tree f w })

@@ -35,7 +35,7 @@ declared_among : (ident : List ℕ) (t : Ty) (decls : List Decl) → declares_as
 declared_among ident t decls declared =
     let decl = declared_as ident t decls declared in
     any_from_has (same_text ident) (map ident_of decls) decl.0.ident (has_map ident_of decls decl.0 decl.1)
-        (ap (same_text ident) decl.2 ∙ text_itself ident)
+    (ap (same_text ident) decl.2 ∙ text_itself ident)
 
 -- a name of this version lacks this base
 abbrev lacks_at : List ℕ → FunctionText → List ℕ → List ℕ → Bool
@@ -56,14 +56,14 @@ module _ (source : List ℕ) (tree : FunctionText) (f : Function) (w : WritesWel
   name_has_base at row name = ap (lacks_base source (occurrences_of tree) (text_of source at)) name.parts
       ∙ ap (λ text. lacks_base source (occurrences_of tree) text (Some (row.base, decimal row.version))) name.text
       ∙ by (base_of_row f row name.base) where
-    by : HasBase f row → lacks_at source tree (decimal row.version) row.base ≡ false
-    by (bare is plain declared) = ap (lacks_at source tree (decimal row.version)) is ∙ ap not (is_local (anonymous row.version) row.ty declared)
-    by (of_param b base is declared) = ap (lacks_at source tree (decimal row.version)) is
-        ∙ ap not (or_right (list_any (same_text (b ∷ base)) (filter_map (local_text source) (occurrences_of tree))) _
-        (is_param (b ∷ base) row.ty declared))
-    by (of_local b base is plain declared) = ap (lacks_at source tree (decimal row.version)) is
-        ∙ ap not (or_left _ (list_any (same_text (b ∷ base)) (filter_map (param_text source) (occurrences_of tree)))
-        (is_local (b ∷ base) row.ty declared))
+        by : HasBase f row → lacks_at source tree (decimal row.version) row.base ≡ false
+        by (bare is plain declared) = ap (lacks_at source tree (decimal row.version)) is ∙ ap not (is_local (anonymous row.version) row.ty declared)
+        by (of_param b base is declared) = ap (lacks_at source tree (decimal row.version)) is
+            ∙ ap not (or_right (list_any (same_text (b ∷ base)) (filter_map (local_text source) (occurrences_of tree))) _
+            (is_param (b ∷ base) row.ty declared))
+        by (of_local b base is plain declared) = ap (lacks_at source tree (decimal row.version)) is
+            ∙ ap not (or_left _ (list_any (same_text (b ∷ base)) (filter_map (param_text source) (occurrences_of tree)))
+            (is_local (b ∷ base) row.ty declared))
 
   -- a default definition is that of a parameter
   name_has_param : (row : NameRow) → base_holds f row ≡ true → row.initial ≡ true
@@ -82,7 +82,7 @@ module _ (source : List ℕ) (tree : FunctionText) (f : Function) (w : WritesWel
       let same : text ≡ assigned_text f x.0 = name.named ∙ ap (assigned_text f) (sym (eqb-true x.0 row.version x.2)) in
       ap not (ap (list_any (same_text text)) (assigned_said source tree f w)
       ∙ any_from_has (same_text text) (map (assigned_text f) (assigned f)) (assigned_text f x.0) (has_map (assigned_text f) (assigned f) x.0 x.1)
-          (ap (same_text text) (sym same) ∙ text_itself text))
+      (ap (same_text text) (sym same) ∙ text_itself text))
 
   -- ---- occurrences
 

@@ -12,7 +12,7 @@ front_distinct [] ys h = refl
 front_distinct (x ∷ xs) ys h =
     let p = and_parts (not (list_any (same_text x) (xs ++ ys))) (all_distinct same_text (xs ++ ys)) h in
     let other : list_any (same_text x) xs ≡ false = none_from_has (same_text x) xs
-        (λ y there same. none_has (same_text x) (xs ++ ys) (not-true (list_any (same_text x) (xs ++ ys)) p.0) y (has_left xs ys y there) same) in
+    (λ y there same. none_has (same_text x) (xs ++ ys) (not-true (list_any (same_text x) (xs ++ ys)) p.0) y (has_left xs ys y there) same) in
     and_from (not (list_any (same_text x) xs)) (all_distinct same_text xs) (ap not other) (front_distinct xs ys p.1)
 
 pub rest_distinct : (xs ys : List (List ℕ)) → all_distinct same_text (xs ++ ys) ≡ true → all_distinct same_text ys ≡ true

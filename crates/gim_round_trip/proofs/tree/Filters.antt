@@ -14,7 +14,7 @@ pub images_kept : {X Y Z : Type 0} (picks : X → Option Z) (others : X → Opti
 images_kept picks others g [] same = refl
 images_kept picks others g (x ∷ xs) same =
     ap (λ o. cons_option o (filter_map picks xs)) (same x (inl refl))
-        ∙ ap (λ l. cons_option (option_map g (others x)) l) (images_kept picks others g xs (λ y there. same y (inr there))) ∙ by (others x) where
+    ∙ ap (λ l. cons_option (option_map g (others x)) l) (images_kept picks others g xs (λ y there. same y (inr there))) ∙ by (others x) where
       by : (o : Option _) → cons_option (option_map g o) (map g (filter_map others xs)) ≡ map g (cons_option o (filter_map others xs))
       by None = refl
       by (Some y) = refl

@@ -53,7 +53,7 @@ named_is_free text base ds parts =
     let other : list_any (λ word. same_text word text) reserved_words ≡ false =
     none_from_has (λ word. same_text word text) reserved_words
     (λ word there same. some_parts word base ds (ap name_parts (same_text_is word text same) ∙ parts)
-        (all_has has_no_parts reserved_words none_is_named word there)) in
+    (all_has has_no_parts reserved_words none_is_named word there)) in
     or_from (list_any (λ word. same_text word text) reserved_words) (is_block_word text) other
     (false_from_ne_true (is_block_word text) (block_word_has_no_parts text base ds parts))
 
@@ -83,7 +83,7 @@ declared_is_word f well decl there =
     let distinct = and_parts _ _ last.0 in
     let idents = (and_parts _ _ distinct.0).1 in
     (and_parts (is_word_text decl.ident) (not (is_reserved decl.ident))
-        (all_has is_identifier (map ident_of (f.params ++ f.decls)) idents decl.ident (has_map ident_of (f.params ++ f.decls) decl there))).0
+    (all_has is_identifier (map ident_of (f.params ++ f.decls)) idents decl.ident (has_map ident_of (f.params ++ f.decls) decl there))).0
 
 base_declared : (f : Function) (ident : List ℕ) (t : Ty) (decls : List Decl) → IsWellFormed f
     → ((decl : Decl) → Has decls decl → Has (f.params ++ f.decls) decl) → declares_as ident t decls ≡ true → is_word_text ident ≡ true
@@ -107,6 +107,6 @@ name_is_identifier f x row well limits found =
     let small : x < 2 ^ 64 = omega (arith, facts.small) in
     let digits = number_is_word (decimal x) (decimal_is_number_text x small) in
     let word : is_word_text (assigned_text f x) ≡ true = ap is_word_text facts.text
-        ∙ name_is_word row.base (decimal x) digits (base_is_word f well row facts.base) in
+    ∙ name_is_word row.base (decimal x) digits (base_is_word f well row facts.base) in
     and_from (is_word_text (assigned_text f x)) (not (is_reserved (assigned_text f x))) word
-        (not_from_false (is_reserved (assigned_text f x)) (named_is_free (assigned_text f x) row.base (decimal x) facts.parts))
+    (not_from_false (is_reserved (assigned_text f x)) (named_is_free (assigned_text f x) row.base (decimal x) facts.parts))

@@ -66,9 +66,9 @@ none_declared source ident (tree ∷ trees) [] written other = absurd written
 none_declared source ident (tree ∷ trees) (d ∷ decls) written other =
     let first : same_text ident (text_of source tree.ident) ≡ false =
     false_from_ne_true (same_text ident (text_of source tree.ident))
-        (λ same. other (inl (sym (same_text_is ident (text_of source tree.ident) same ∙ written.0.0)))) in
+    (λ same. other (inl (sym (same_text_is ident (text_of source tree.ident) same ∙ written.0.0)))) in
     ap (λ b. cond b (Some tree.ty) (declared_type source ident trees)) first
-        ∙ none_declared source ident trees decls written.1 (λ there. other (inr there))
+    ∙ none_declared source ident trees decls written.1 (λ there. other (inr there))
 
 -- the parts, the version and the type of a name that stands at a place
 pub record KnownName (source : List ℕ) (tree : FunctionText) (at : Span) (x : ℕ) (row : NameRow) : Type 0 where
@@ -82,7 +82,7 @@ module _ (source : List ℕ) (tree : FunctionText) (f : Function) (w : WritesWel
       let d = declared_as ident t f.params h in
       let distinct = front_distinct (map ident_of f.params) (map ident_of f.decls) (idents_distinct f w.well) in
       ap (λ i. declared_type source i tree.params) (sym d.2) ∙ type_declared source tree.params f.params w.writes.params distinct d.0 d.1
-          ∙ ap Some d.3
+      ∙ ap Some d.3
 
   local_type : (ident : List ℕ) (t : Ty) → declares_as ident t f.decls ≡ true → declared_type source ident tree.decls ≡ Some t
   local_type ident t h =
@@ -96,7 +96,7 @@ module _ (source : List ℕ) (tree : FunctionText) (f : Function) (w : WritesWel
       let d = declared_as ident t f.decls h in
       let local : Has (map ident_of f.decls) ident = subst (Has (map ident_of f.decls)) d.2 (has_map ident_of f.decls d.0 d.1) in
       none_declared source ident tree.params f.params w.writes.params
-          (λ there. apart (map ident_of f.params) (map ident_of f.decls) (idents_distinct f w.well) ident there local)
+      (λ there. apart (map ident_of f.params) (map ident_of f.decls) (idents_distinct f w.well) ident there local)
 
   -- the declaration of a row's base, or of the whole name, gives its type
   base_type : (row : NameRow) → base_holds f row ≡ true
@@ -118,9 +118,9 @@ module _ (source : List ℕ) (tree : FunctionText) (f : Function) (w : WritesWel
       let facts = name_facts f x row w.well w.within found in
       let parts : name_parts (text_of source at) ≡ Some (row.base, decimal x) = ap name_parts text ∙ facts.parts in
       let whole : text_of source at ≡ row.base ++ 95 ∷ decimal row.version = text ∙ facts.text
-          ∙ ap (λ v. row.base ++ 95 ∷ decimal v) (sym facts.is_version) in
+      ∙ ap (λ v. row.base ++ 95 ∷ decimal v) (sym facts.is_version) in
       let typed : type_by_base known (text_of source at) row.base ≡ Some row.ty = ap (λ t. type_by_base known t row.base) whole
-          ∙ base_type row facts.base in
+      ∙ base_type row facts.base in
       record {
         parts = parts;
         version = ap version_by_parts parts ∙ number_of_decimal x facts.small;

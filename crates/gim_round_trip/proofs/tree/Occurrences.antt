@@ -135,11 +135,11 @@ module _ (source : List ℕ) (f : Function) where
       let phis = all_say (WritesPhi source f) occurrences_of_item parts_of_phi w.phi_items block.phis phi_says w.phis in
       let stmts = all_say (WritesStmt source f) occurrences_of_item parts_of_stmt w.stmt_items block.stmts stmt_says w.stmts in
       let in_order : flat_map occurrences_of_item text.items ≡ flat_map occurrences_of_item w.phi_items ++ flat_map occurrences_of_item w.stmt_items =
-          ap (flat_map occurrences_of_item) w.in_order ∙ flat_map-append occurrences_of_item w.phi_items w.stmt_items in
+      ap (flat_map occurrences_of_item) w.in_order ∙ flat_map-append occurrences_of_item w.phi_items w.stmt_items in
       let lines : Say (flat_map occurrences_of_item text.items) (flat_map parts_of_phi block.phis ++ flat_map parts_of_stmt block.stmts) = ap
-          (map (said source)) in_order ∙ both_say _ _ _ _ phis stmts in
+      (map (said source)) in_order ∙ both_say _ _ _ _ phis stmts in
       both_say (BlockAt text.number ∷ flat_map occurrences_of_item text.items) (occurrences_of_end text.end)
-          (head block.number ∷ (flat_map parts_of_phi block.phis ++ flat_map parts_of_stmt block.stmts)) (parts_of_end block.end)
+      (head block.number ∷ (flat_map parts_of_phi block.phis ++ flat_map parts_of_stmt block.stmts)) (parts_of_end block.end)
       (rw (w.number) (ap (λ l. a_head (decimal block.number) ∷ l) lines)) (end_says text.end block.end w.end)
 
   pub occurrences_say : (tree : FunctionText) → Writes source tree f → Say (occurrences_of tree) (parts_of f)
@@ -147,5 +147,5 @@ module _ (source : List ℕ) (f : Function) where
       let params = each_says (WritesDecl source) occurrence_of_parameter parameter tree.params f.params (λ decl d h. ap a_parameter h.0) w.params in
       let locals = each_says (WritesDecl source) occurrence_of_local local tree.decls f.decls (λ decl d h. ap a_local h.0) w.decls in
       both_say (map occurrence_of_parameter tree.params ++ map occurrence_of_local tree.decls) (flat_map occurrences_of_block tree.blocks)
-          (map parameter f.params ++ map local f.decls) (flat_map parts_of_block f.blocks)
+      (map parameter f.params ++ map local f.decls) (flat_map parts_of_block f.blocks)
       (both_say _ _ _ _ params locals) (all_say (WritesBlock source f) occurrences_of_block parts_of_block tree.blocks f.blocks block_says w.blocks)

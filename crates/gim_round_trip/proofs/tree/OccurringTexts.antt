@@ -53,7 +53,7 @@ module _ (source : List ℕ) (tree : FunctionText) (f : Function) (w : WritesWel
   numbers_said =
       (declares source tree).blocks
       ∙ same_images (WritesBlock source f) (number_text source) (λ (block : Block). decimal block.number) tree.blocks f.blocks
-          (λ text block h. h.number) w.writes.blocks
+      (λ text block h. h.number) w.writes.blocks
       ∙ sym (map-map decimal (λ (block : Block). block.number) f.blocks)
 
   -- what is read of each name that is assigned
@@ -62,9 +62,9 @@ module _ (source : List ℕ) (tree : FunctionText) (f : Function) (w : WritesWel
       → ((x : ℕ) → Has (assigned f) x → reading (assigned_text f x) ≡ Some (g x)) → filter_map says (occurrences_of tree) ≡ map g (assigned f)
   names_said says reading g same each =
       kept_of_images says (of_assigned reading) (said source) same (occurrences_of tree)
-          ∙ ap (filter_map (of_assigned reading)) (occurrences_say source f tree w.writes)
+      ∙ ap (filter_map (of_assigned reading)) (occurrences_say source f tree w.writes)
       ∙ filter_of_map (of_assigned reading) (told f) (parts_of f) ∙ images_kept (λ part. of_assigned reading (told f part)) a_name g (parts_of f) by
-          ∙ ap (map g) (names_are f) where
+      ∙ ap (map g) (names_are f) where
         by : (part : Part) → Has (parts_of f) part → of_assigned reading (told f part) ≡ option_map g (a_name part)
         by (assigns x) there = each x (part_is f (assigns x) there)
         by part there = refl
@@ -78,6 +78,6 @@ module _ (source : List ℕ) (tree : FunctionText) (f : Function) (w : WritesWel
   pub versions_said : filter_map (assigned_version source) (occurrences_of tree) ≡ map decimal (assigned f)
   versions_said = names_said (assigned_version source) (λ text. version_in (name_parts text)) decimal same
       (λ x there. let row = assigned_row f w.well x there in ap version_in (name_facts f x row.0 w.well w.within row.1).parts) where
-    same : (o : Occurrence) → assigned_version source o ≡ of_assigned (λ text. version_in (name_parts text)) (said source o)
-    same (Assigned at) = refl
-    same o = refl
+        same : (o : Occurrence) → assigned_version source o ≡ of_assigned (λ text. version_in (name_parts text)) (said source o)
+        same (Assigned at) = refl
+        same o = refl

@@ -83,9 +83,9 @@ name_facts f x row well limits found =
     let version : row.version ≡ x = first_of_has x f.names row found in
     let small : x < 1000000000 = omega (arith, version_small f limits row has, version) in
     let text : assigned_text f x ≡ row.base ++ 95 ∷ decimal x = ap (λ o. name_text (option_map_or (λ (r : NameRow). r.base) o []) x) found
-        ∙ underscored row.base (decimal x) in
+    ∙ underscored row.base (decimal x) in
     let both = and_parts (base_holds f row) (row_stands f row) (all_has (λ (r : NameRow). base_holds f r && row_stands f r) f.names
-        (of_names f well).rows row has) in
+    (of_names f well).rows row has) in
     record {
       is_version = version;
       small = small;
@@ -104,9 +104,9 @@ pub assigned_is_not_initial : (f : Function) (x : ℕ) (row : NameRow) → IsWel
 assigned_is_not_initial f x row well limits there found =
     let facts = name_facts f x row well limits found in
     let assigned_here : is_assigned f row.version ≡ true = any_from_has (λ y. y == row.version) (assigned f) x there
-        (eq-eqb x row.version (sym facts.is_version)) in
+    (eq-eqb x row.version (sym facts.is_version)) in
     by row.initial (is_assigned f row.version) (is_used f row.version)
-        (is_assigned f row.version || (same_text row.base [] && not (is_used f row.version))) refl assigned_here facts.stands where
+    (is_assigned f row.version || (same_text row.base [] && not (is_used f row.version))) refl assigned_here facts.stands where
       by : (initial a u other : Bool) → row.initial ≡ initial → a ≡ true → cond initial (not a && u) other ≡ true → row.initial ≡ false
       by false a u other is h stands = is
       by true true u other is h stands = absurd (false≢true stands)
@@ -116,12 +116,12 @@ assigned_is_not_initial f x row well limits there found =
 pub used_is_assigned : (f : Function) (row : NameRow) → row_stands f row ≡ true → row.initial ≡ false → is_used f row.version ≡ true → is_assigned f row.version ≡ true
 used_is_assigned f row stands plain used = by row.initial (is_assigned f row.version) (same_text row.base [])
     (is_used f row.version) stands plain used where
-  by : (initial a bare u : Bool) → cond initial (not a && u) (a || (bare && not u)) ≡ true → initial ≡ false → u ≡ true → a ≡ true
-  by true a bare u stands plain used = absurd (false≢true (sym plain))
-  by false true bare u stands plain used = refl
-  by false false true true stands plain used = stands
-  by false false true false stands plain used = used
-  by false false false u stands plain used = stands
+      by : (initial a bare u : Bool) → cond initial (not a && u) (a || (bare && not u)) ≡ true → initial ≡ false → u ≡ true → a ≡ true
+      by true a bare u stands plain used = absurd (false≢true (sym plain))
+      by false true bare u stands plain used = refl
+      by false false true true stands plain used = stands
+      by false false true false stands plain used = used
+      by false false false u stands plain used = stands
 
 -- an anonymous local is the name of a row without a base
 pub local_row : (f : Function) → IsWellFormed f → (decl : Decl) → Has f.decls decl → is_anonymous decl.ident ≡ true

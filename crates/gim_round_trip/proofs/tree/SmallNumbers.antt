@@ -59,8 +59,10 @@ among_decimals ns n small one = any_decimal (λ m. m == n) n ns (λ m there. tur
 pub distinct_decimals : (ns : List ℕ) → AreSmallNumbers ns → all_distinct same_text (map decimal ns) ≡ all_distinct ◌==◌ ns
 distinct_decimals [] small = refl
 distinct_decimals (n ∷ ns) small =
-    rw (any_decimal (λ m. n == m) n ns (λ m there. same_small n m (small n (inl refl)) (small m (inr there))),
-        distinct_decimals ns (λ m there. small m (inr there))) refl
+    rw (
+      any_decimal (λ m. n == m) n ns (λ m there. same_small n m (small n (inl refl)) (small m (inr there))),
+      distinct_decimals ns (λ m there. small m (inr there)),
+    ) refl
 
 pub all_among_decimals : (wanted ns : List ℕ) → AreSmallNumbers wanted → AreSmallNumbers ns
     → list_all (shape.is_among (map decimal wanted)) (map decimal ns) ≡ list_all (λ n. ast.is_among n wanted) ns
@@ -99,7 +101,7 @@ module _ (f : Function) (limits : IsWithinLimits f) where
     targets_small block there n leads =
         among_small (numbers_of f) numbers_small n
         (all_has (λ m. ast.is_among m (numbers_of f)) _ (of_blocks f well).targets n
-            (has_flat (λ (b : Block). targets_of b.end) f.blocks block n there leads))
+        (has_flat (λ (b : Block). targets_of b.end) f.blocks block n there leads))
 
     pub phi_blocks_small : (block : Block) → Has f.blocks block → (phi : Phi) → Has block.phis phi → AreSmallNumbers (phi_blocks phi)
     phi_blocks_small block there phi here n named =

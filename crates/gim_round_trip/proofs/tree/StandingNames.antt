@@ -50,7 +50,7 @@ same_row : (m : ℕ) (t : Ty) (mark : Bool) (row : NameRow) → m ≡ row.versio
     → (let made : NameRow = record { version = m; base = row.base; ty = t; initial = mark } in made) ≡ row
 same_row m t mark row version type initial =
     ap (λ v. record { version = v; base = row.base; ty = t; initial = mark }) version
-        ∙ ap (λ u. record { version = row.version; base = row.base; ty = u; initial = mark }) type
+    ∙ ap (λ u. record { version = row.version; base = row.base; ty = u; initial = mark }) type
     ∙ ap (λ i. record { version = row.version; base = row.base; ty = row.ty; initial = i }) initial
 
 abbrev place_at : Occurrence → Span → NamePlace
@@ -66,7 +66,7 @@ module _ (source : List ℕ) (tree : FunctionText) (f : Function) (w : WritesWel
       let name = known_name source tree f w at row.version row is.name.named (row_found f w.well row is.name.in_names) in
       ap (rows_by_parts known (place_at o at)) name.parts
       ∙ ap (λ r. r ∷ []) (same_row (number_of (decimal row.version)) (type_of_name known at) (is_default o) row
-          (number_of_decimal row.version is.name.small) name.type is.mark)
+      (number_of_decimal row.version is.name.small) name.type is.mark)
 
   row_is_named : (row : NameRow) → Has (named_rows source tree) row → Has f.names row
   row_is_named row there =
@@ -90,7 +90,7 @@ module _ (source : List ℕ) (tree : FunctionText) (f : Function) (w : WritesWel
       let o = row_occurs source tree f w row named in
       let place = place_at o.0 o.2 in
       has_flat (rows_of_place known) (names_in source tree) place row
-          (has_said (name_place source) (occurrences_of tree) o.0 place o.1 (ap (option_map (place_at o.0)) o.3.place))
+      (has_said (name_place source) (occurrences_of tree) o.0 place o.1 (ap (option_map (place_at o.0)) o.3.place))
       (subst (λ l. Has l row) (sym (place_rows o.0 o.2 row o.3)) (inl refl))
 
   pub names_stand : AreNames (named_rows source tree) f.names

@@ -57,7 +57,7 @@ module _ (f : Function) (block : Block) (there : Has f.blocks block) where
   unfolding operands_of
   end_operand x stands =
       has_flat operands_of_block f.blocks block x there (has_right
-          (flat_map operands_of_phi block.phis ++ flat_map operands_of_stmt block.stmts) _ _ stands)
+      (flat_map operands_of_phi block.phis ++ flat_map operands_of_stmt block.stmts) _ _ stands)
 
   module _ (well : IsWellFormed f) where
     fits : block_fits f block ≡ true
@@ -69,7 +69,7 @@ module _ (f : Function) (block : Block) (there : Has f.blocks block) where
     pub phi_rules : (phi : Phi) → Has block.phis phi → PhiHolds f block.number phi
     phi_rules phi here =
         let last = and_parts _ _ (all_has (phi_holds f block.number) block.phis
-            (all_has (λ (b : Block). list_all (phi_holds f b.number) b.phis) f.blocks (of_blocks f well).phis block there) phi here) in
+        (all_has (λ (b : Block). list_all (phi_holds f b.number) b.phis) f.blocks (of_blocks f well).phis block there) phi here) in
         let each = and_parts _ _ last.0 in
         let first = and_parts _ _ each.0 in
         record { distinct = first.0; only = first.1; each = each.1; some = not-true (is_empty phi.args) last.1 }

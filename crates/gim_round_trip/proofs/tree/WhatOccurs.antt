@@ -131,7 +131,7 @@ module _ (source : List ℕ) (tree : FunctionText) (f : Function) (w : WritesWel
   pub occurrence_is : (o : Occurrence) → Has (occurrences_of tree) o → OccurrenceIs source f o
   occurrence_is o there =
       let part = from_map (told f) (parts_of f) (said source o) (subst (λ l. Has l (said source o)) (occurrences_say source f tree w.writes)
-          (has_map (said source) (occurrences_of tree) o there)) in
+      (has_map (said source) (occurrences_of tree) o there)) in
       told_is o part.0 (part_is f part.0 part.1) part.2
 
   -- the name that stands where a name occurs
@@ -142,7 +142,7 @@ module _ (source : List ℕ) (tree : FunctionText) (f : Function) (w : WritesWel
       let found = row_found f w.well row.0 row.1 in
       let facts = name_facts f row.0.version row.0 w.well w.within found in
       let text : text_of source at ≡ assigned_text f row.0.version = ap (text_of source) (sym bare.1) ∙ is.2 ∙ sym row.3
-          ∙ ap (λ base. base ++ 95 ∷ decimal row.0.version) (sym row.2) ∙ sym facts.text in
+      ∙ ap (λ base. base ++ 95 ∷ decimal row.0.version) (sym row.2) ∙ sym facts.text in
       (row.0, record { place = e; name = name_here at row.0.version row.0 found text; mark = sym (bare_row f row.0 facts.base row.2).0 })
   name_of (Assigned place) at is e = let here : place ≡ at = cc in
       (is.0, record { place = e; name = subst (λ p. IsNameAt source f p is.0) here is.1; mark = sym is.2 })
@@ -163,8 +163,16 @@ module _ (source : List ℕ) (tree : FunctionText) (f : Function) (w : WritesWel
 
   occurs : (row : NameRow) (o : Occurrence) → Has f.names row → Has (occurrences_of tree) o
       → (at : Span) × (name_at source o ≡ Some at) × (text_of source at ≡ assigned_text f row.version) × (is_default o ≡ row.initial) → Occurs row
-  occurs row o named there found = (o, there, found.0, record { place = found.1;
-      name = name_here found.0 row.version row (row_found f w.well row named) found.2; mark = found.3 })
+  occurs row o named there found = (
+    o,
+    there,
+    found.0,
+    record {
+      place = found.1;
+      name = name_here found.0 row.version row (row_found f w.well row named) found.2;
+      mark = found.3;
+    },
+  )
 
   assigned_occurs : (row : NameRow) → Has f.names row → row.initial ≡ false → is_assigned f row.version ≡ true → Occurs row
   assigned_occurs row named plain a =
@@ -182,7 +190,7 @@ module _ (source : List ℕ) (tree : FunctionText) (f : Function) (w : WritesWel
         let s = operand_said source (assigned_text f x) (is_initial f x) o.0 o.2 in
         let version : x ≡ row.version = eqb-true x row.version same in
         let initial : is_initial f row.version ≡ row.initial = (name_facts f row.version row w.well w.within
-            (row_found f w.well row named)).initial in
+        (row_found f w.well row named)).initial in
         occurs row o.0 named o.1 (s.0, s.1, s.2 ∙ ap (assigned_text f) version, s.3 ∙ ap (is_initial f) version ∙ initial)
 
   local_occurs : (row : NameRow) → Has f.names row → row.base ≡ [] → Occurs row
@@ -193,7 +201,7 @@ module _ (source : List ℕ) (tree : FunctionText) (f : Function) (w : WritesWel
       let o = part_occurs (local decl.0) (local_there f decl.0 decl.1) in
       let number : is_number_text (decimal row.version) ≡ true = decimal_is_number_text row.version (omega (arith, facts.small)) in
       let s = local_said source decl.0.ident o.0 o.2 (ap is_anonymous decl.2
-          ∙ and_from (95 == 95) (is_number_text (decimal row.version)) (eq-eqb 95 95 refl) number) in
+      ∙ and_from (95 == 95) (is_number_text (decimal row.version)) (eq-eqb 95 95 refl) number) in
       occurs row o.0 named o.1 (s.0, s.1, s.2 ∙ decl.2 ∙ ap (λ base. base ++ 95 ∷ decimal row.version) (sym empty) ∙ sym facts.text, s.3 ∙ sym bare.0)
 
   pub row_occurs : (row : NameRow) → Has f.names row → Occurs row
