@@ -16,7 +16,8 @@ use Rattle.gim_round_trip.proofs.rules.TypesSound.{types_sound, trees_stand}
 use Rattle.gim_round_trip.proofs.rules.LimitsSound.{limits_sound}
 use Rattle.gim_round_trip.proofs.tree.Writes.{all_write_well}
 
-no_rule_broken : (source : List ℕ) (trees : List FunctionText) → names_fault source trees ≡ None → shape_fault source trees ≡ None → types_fault source trees ≡ None → limits_fault source trees ≡ None
+no_rule_broken : (source : List ℕ) (trees : List FunctionText) → names_fault source trees ≡ None → shape_fault source trees ≡ None
+    → types_fault source trees ≡ None → limits_fault source trees ≡ None
     → rules_fault source trees ≡ None
 unfolding rules_fault
 no_rule_broken source trees names shape types limits = rw (names, shape, types, limits) refl
@@ -34,7 +35,8 @@ read_back fs may =
         trees = r.trees;
         spelled = r.spelled;
         kept = no_rule_broken source r.trees
-            (names_sound source r.trees fs written may.distinct) (shape_sound source r.trees fs written) (types_sound source r.trees fs written) (limits_sound source r.trees fs written);
+            (names_sound source r.trees fs written may.distinct) (shape_sound source r.trees fs written) (types_sound source r.trees fs written)
+            (limits_sound source r.trees fs written);
         stand = trees_stand source r.trees fs written;
       };
     }

@@ -46,7 +46,8 @@ all_small ns small = all_from_has (λ n. nat_lt n 1000000000) ns (λ n there. lt
 
 -- ---- one function
 
-module _ (source : List ℕ) (tree : FunctionText) (names : List NameRow) (kept : KeepsNames source tree) (limits : KeepsLimits source tree) (are : AreNames (named_rows source tree) names) where
+module _ (source : List ℕ) (tree : FunctionText) (names : List NameRow) (kept : KeepsNames source tree) (limits : KeepsLimits source tree)
+    (are : AreNames (named_rows source tree) names) where
   versions_small : AreSmallNumbers (map version_of names)
   versions_small version there =
       let r = from_map version_of names version there in
@@ -62,7 +63,8 @@ module _ (source : List ℕ) (tree : FunctionText) (names : List NameRow) (kept 
   made_within : IsWithinLimits (made source tree names)
   unfolding made
   made_within =
-      let count : length (map (block_of (declarations_of source tree)) tree.blocks) ≡ length tree.blocks = length-map tree.blocks (block_of (declarations_of source tree)) in
+      let count : length (map (block_of (declarations_of source tree)) tree.blocks) ≡ length tree.blocks = length-map tree.blocks
+      (block_of (declarations_of source tree)) in
       let limit : length tree.blocks ≤ 2000 = limits.blocks in
       record {
         blocks = omega (arith, count, limit);
@@ -82,7 +84,8 @@ read_may_be_printed source fs file short =
     let trees = file.from_tokens.trees in
     let stand = file.from_tokens.stand in
     let rules = sound source file.tokens trees file.within file.are_tokens file.from_tokens.spelled file.from_tokens.kept in
-    let names : map (function_text source) trees ≡ function_names fs = same_images (StandsFor source) (function_text source) (λ (f : Function). f.name) trees fs (λ t f s. name_stands source t f s) stand in
+    let names : map (function_text source) trees ≡ function_names fs = same_images (StandsFor source) (function_text source)
+    (λ (f : Function). f.name) trees fs (λ t f s. name_stands source t f s) stand in
     record {
       well_formed = sound_files source trees fs rules stand;
       within = all_by IsWithinLimits fs (λ f there.

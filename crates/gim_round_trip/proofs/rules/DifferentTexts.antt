@@ -29,7 +29,8 @@ firsts_distinct (t ∷ ts) = by (is_among ts t) refl (firsts_distinct ts) where
   by true e later = later
   by false e later =
       and_from (not (list_any (same_text t) (firsts ts))) (all_distinct same_text (firsts ts))
-      (ap not (none_from_has (same_text t) (firsts ts) (λ x there same. false≢true (sym e ∙ any_from_has (same_text t) ts x (from_firsts ts x there) same)))) later
+      (ap not (none_from_has (same_text t) (firsts ts) (λ x there same. false≢true
+      (sym e ∙ any_from_has (same_text t) ts x (from_firsts ts x there) same)))) later
 
 firsts_count : (ts : List (List ℕ)) → length (firsts ts) ≡ different ts
 firsts_count [] = refl
@@ -48,7 +49,8 @@ different_most (t ∷ ts) = by (is_among ts t) (different_most ts) where
 pub few_different : (known texts : List (List ℕ)) → list_all (is_among known) texts ≡ true → different texts ≤ length known
 few_different known texts all =
     let chosen : length (firsts texts) ≤ different known =
-    chosen_are_few known (firsts texts) (firsts_distinct texts) (all_from_has (is_among known) (firsts texts) (λ x there. all_has (is_among known) texts all x (from_firsts texts x there))) in
+    chosen_are_few known (firsts texts) (firsts_distinct texts)
+    (all_from_has (is_among known) (firsts texts) (λ x there. all_has (is_among known) texts all x (from_firsts texts x there))) in
     let count = firsts_count texts in
     let most = different_most known in
     omega arith

@@ -9,6 +9,7 @@ use Rattle.gim_making.proofs.Membership.{Has}
 pub none_joined : (xs ys : List (Option GimpleFault)) → first_fault xs ≡ None → first_fault ys ≡ None → first_fault (xs ++ ys) ≡ None
 none_joined xs ys none_first none_later = first_fault-append xs ys ∙ ap (λ o. or_fault o (first_fault ys)) none_first ∙ none_later
 
-pub none_of_each : {X : Type 0} (f : X → List (Option GimpleFault)) (xs : List X) → ((x : X) → Has xs x → first_fault (f x) ≡ None) → first_fault (flat_map f xs) ≡ None
+pub none_of_each : {X : Type 0} (f : X → List (Option GimpleFault)) (xs : List X) → ((x : X) → Has xs x → first_fault (f x) ≡ None)
+    → first_fault (flat_map f xs) ≡ None
 none_of_each f [] each = refl
 none_of_each f (x ∷ xs) each = none_joined (f x) (flat_map f xs) (each x (inl refl)) (none_of_each f xs (λ y there. each y (inr there)))

@@ -34,18 +34,22 @@ use Rattle.gim_round_trip.proofs.tree.Writes.{WritesWell}
 -- ---- default definitions
 
 -- no two default definitions have one base
-one_default : (rows : List NameRow) → all_distinct same_text (initial_bases rows) ≡ true → (a b : NameRow) → Has rows a → Has rows b → a.initial ≡ true → b.initial ≡ true → a.base ≡ b.base → a ≡ b
+one_default : (rows : List NameRow) → all_distinct same_text (initial_bases rows) ≡ true → (a b : NameRow) → Has rows a → Has rows b
+    → a.initial ≡ true → b.initial ≡ true → a.base ≡ b.base → a ≡ b
 one_default rows distinct a b p q first second bases = one_of (λ (row : NameRow). cond row.initial (row.base ∷ []) []) rows distinct a b b.base p q
-    (subst (λ i. Has (cond i (a.base ∷ []) []) b.base) (sym first) (inl bases)) (subst (λ i. Has (cond i (b.base ∷ []) []) b.base) (sym second) (inl refl))
+    (subst (λ i. Has (cond i (a.base ∷ []) []) b.base) (sym first) (inl bases))
+    (subst (λ i. Has (cond i (b.base ∷ []) []) b.base) (sym second) (inl refl))
 
 -- ---- what an occurrence says of versions, by the name that stands there
 
-bare_by : (o : Option (List ℕ × List ℕ)) (p : List ℕ × List ℕ) → turned (anonymous_parts o) ≡ Some p → (version : List ℕ) × (o ≡ Some ([], version)) × (turned o ≡ Some p)
+bare_by : (o : Option (List ℕ × List ℕ)) (p : List ℕ × List ℕ) → turned (anonymous_parts o) ≡ Some p
+    → (version : List ℕ) × (o ≡ Some ([], version)) × (turned o ≡ Some p)
 bare_by None p e = absurd cc
 bare_by (Some ([], version)) p e = (version, refl, e)
 bare_by (Some (b ∷ base, version)) p e = absurd cc
 
-pair_place : (source : List ℕ) (o : Occurrence) (p : List ℕ × List ℕ) → version_base source o ≡ Some p → (at : Span) × (name_at source o ≡ Some at) × (turned (name_parts (text_of source at)) ≡ Some p)
+pair_place : (source : List ℕ) (o : Occurrence) (p : List ℕ × List ℕ) → version_base source o ≡ Some p
+    → (at : Span) × (name_at source o ≡ Some at) × (turned (name_parts (text_of source at)) ≡ Some p)
 pair_place source (Local at) p e =
     let bare = bare_by (name_parts (text_of source at)) p e in
     (at, ap (λ b. cond b (Some at) None) (bare_is_anonymous (text_of source at) bare.0 bare.1), bare.2)
@@ -54,16 +58,19 @@ pair_place source (Used at) p e = (at, refl, e)
 pair_place source (Default at) p e = (at, refl, e)
 pair_place source o p e = absurd cc
 
-plain_place : (source : List ℕ) (o : Occurrence) (x : List ℕ) → plain_version source o ≡ Some x → (at : Span) × (name_at source o ≡ Some at) × (version_in (name_parts (text_of source at)) ≡ Some x) × (is_default o ≡ false)
+plain_place : (source : List ℕ) (o : Occurrence) (x : List ℕ) → plain_version source o ≡ Some x
+    → (at : Span) × (name_at source o ≡ Some at) × (version_in (name_parts (text_of source at)) ≡ Some x) × (is_default o ≡ false)
 plain_place source (Assigned at) x e = (at, refl, e, refl)
 plain_place source (Used at) x e = (at, refl, e, refl)
 plain_place source o x e = absurd cc
 
-marked_place : (source : List ℕ) (o : Occurrence) (x : List ℕ) → default_version source o ≡ Some x → (at : Span) × (name_at source o ≡ Some at) × (version_in (name_parts (text_of source at)) ≡ Some x) × (is_default o ≡ true)
+marked_place : (source : List ℕ) (o : Occurrence) (x : List ℕ) → default_version source o ≡ Some x
+    → (at : Span) × (name_at source o ≡ Some at) × (version_in (name_parts (text_of source at)) ≡ Some x) × (is_default o ≡ true)
 marked_place source (Default at) x e = (at, refl, e, refl)
 marked_place source o x e = absurd cc
 
-default_place : (source : List ℕ) (o : Occurrence) (p : List ℕ × List ℕ) → base_default source o ≡ Some p → (at : Span) × (name_at source o ≡ Some at) × (name_parts (text_of source at) ≡ Some p) × (is_default o ≡ true)
+default_place : (source : List ℕ) (o : Occurrence) (p : List ℕ × List ℕ) → base_default source o ≡ Some p
+    → (at : Span) × (name_at source o ≡ Some at) × (name_parts (text_of source at) ≡ Some p) × (is_default o ≡ true)
 default_place source (Default at) p e = (at, refl, e, refl)
 default_place source o p e = absurd cc
 
@@ -74,9 +81,11 @@ module _ (source : List ℕ) (tree : FunctionText) (f : Function) (w : WritesWel
 
   -- rows of one version are one
   one_row : (a b : NameRow) → Has f.names a → Has f.names b → decimal a.version ≡ decimal b.version → a ≡ b
-  one_row a b p q same = one_of_version f.names (of_names f w.well).rising a b p q (small_decimal a.version b.version (version_small f w.within a p) (version_small f w.within b q) same)
+  one_row a b p q same = one_of_version f.names (of_names f w.well).rising a b p q
+      (small_decimal a.version b.version (version_small f w.within a p) (version_small f w.within b q) same)
 
-  pair_said : (p : List ℕ × List ℕ) → Has (filter_map (version_base source) (occurrences_of tree)) p → (row : NameRow) × Has f.names row × (p ≡ (decimal row.version, row.base))
+  pair_said : (p : List ℕ × List ℕ) → Has (filter_map (version_base source) (occurrences_of tree)) p
+      → (row : NameRow) × Has f.names row × (p ≡ (decimal row.version, row.base))
   pair_said p there =
       let o = from_said (version_base source) (occurrences_of tree) p there in
       let place = pair_place source o.0 p o.2 in
@@ -103,7 +112,8 @@ module _ (source : List ℕ) (tree : FunctionText) (f : Function) (w : WritesWel
       let name = named o.0 place.0 o.1 place.1 in
       (name.0, name.1.name.in_names, sym name.1.mark ∙ place.3, some_is x (decimal name.0.version) (sym place.2 ∙ ap version_in name.1.name.parts))
 
-  default_said : (p : List ℕ × List ℕ) → Has (filter_map (base_default source) (occurrences_of tree)) p → (row : NameRow) × Has f.names row × (row.initial ≡ true) × (p ≡ (row.base, decimal row.version))
+  default_said : (p : List ℕ × List ℕ) → Has (filter_map (base_default source) (occurrences_of tree)) p
+      → (row : NameRow) × Has f.names row × (row.initial ≡ true) × (p ≡ (row.base, decimal row.version))
   default_said p there =
       let o = from_said (base_default source) (occurrences_of tree) p there in
       let place = default_place source o.0 p o.2 in
@@ -122,14 +132,18 @@ module _ (source : List ℕ) (tree : FunctionText) (f : Function) (w : WritesWel
   never_declared_again : NeverBy (is_declared_again source) [] (occurrences_of tree)
   never_declared_again =
       let idents = ap (all_distinct same_text) (declared_said source tree f w) ∙ (and_parts _ _ (and_parts _ _ w.well.declarations).0).1 in
-      let numbers = ap (all_distinct same_text) (numbers_said source tree f w) ∙ distinct_decimals (numbers_of f) (numbers_small f w.within) ∙ (of_blocks f w.well).distinct in
-      never_either (λ b o. stands (declared_text source o) (filter_map (declared_text source) b)) (λ b o. stands (block_number source o) (filter_map (block_number source) b)) [] (occurrences_of tree)
+      let numbers = ap (all_distinct same_text) (numbers_said source tree f w) ∙ distinct_decimals (numbers_of f) (numbers_small f w.within)
+      ∙ (of_blocks f w.well).distinct in
+      never_either (λ b o. stands (declared_text source o) (filter_map (declared_text source) b))
+      (λ b o. stands (block_number source o) (filter_map (block_number source) b)) [] (occurrences_of tree)
       (never_twice (declared_text source) (occurrences_of tree) idents) (never_twice (block_number source) (occurrences_of tree) numbers)
 
   never_assigned_again : NeverBy (is_assigned_again source) [] (occurrences_of tree)
   never_assigned_again =
-      let small : AreSmallNumbers (assigned f) = λ x there. let row = assigned_row f w.well x there in (name_facts f x row.0 w.well w.within row.1).small in
-      never_twice (assigned_version source) (occurrences_of tree) (ap (all_distinct same_text) (versions_said source tree f w) ∙ distinct_decimals (assigned f) small ∙ (of_names f w.well).assigned_once)
+      let small : AreSmallNumbers (assigned f) = λ x there. let row = assigned_row f w.well x there in
+      (name_facts f x row.0 w.well w.within row.1).small in
+      never_twice (assigned_version source) (occurrences_of tree)
+      (ap (all_distinct same_text) (versions_said source tree f w) ∙ distinct_decimals (assigned f) small ∙ (of_names f w.well).assigned_once)
 
   never_other_base : NeverBy (has_other_base source) [] (occurrences_of tree)
   never_other_base = never_differs (version_base source) (occurrences_of tree) (λ p q first second same.
@@ -141,15 +155,19 @@ module _ (source : List ℕ) (tree : FunctionText) (f : Function) (w : WritesWel
   never_other_mark : NeverBy (has_other_mark source) [] (occurrences_of tree)
   never_other_mark =
       let ms = occurrences_of tree in
-      never_either (λ b o. stands (default_version source o) (filter_map (plain_version source) b)) (λ b o. stands (plain_version source o) (filter_map (default_version source) b)) [] ms
-      (never_both (plain_version source) (default_version source) ms (λ x y first second same. marks_apart x y (plain_said x first) (marked_said y second) (sym same)))
-      (never_both (default_version source) (plain_version source) ms (λ x y first second same. marks_apart y x (plain_said y second) (marked_said x first) same))
+      never_either (λ b o. stands (default_version source o) (filter_map (plain_version source) b))
+      (λ b o. stands (plain_version source o) (filter_map (default_version source) b)) [] ms
+      (never_both (plain_version source) (default_version source) ms
+      (λ x y first second same. marks_apart x y (plain_said x first) (marked_said y second) (sym same)))
+      (never_both (default_version source) (plain_version source) ms
+      (λ x y first second same. marks_apart y x (plain_said y second) (marked_said x first) same))
 
   never_other_default : NeverBy (has_other_default source) [] (occurrences_of tree)
   never_other_default = never_differs (base_default source) (occurrences_of tree) (λ p q first second same.
       let a = default_said p first in
       let b = default_said q second in
-      let rows = one_default f.names (of_names f w.well).initials a.0 b.0 a.1 b.1 a.2 b.2 (sym (ap (λ (r : List ℕ × List ℕ). r.0) a.3) ∙ same ∙ ap (λ (r : List ℕ × List ℕ). r.0) b.3) in
+      let rows = one_default f.names (of_names f w.well).initials a.0 b.0 a.1 b.1 a.2 b.2
+      (sym (ap (λ (r : List ℕ × List ℕ). r.0) a.3) ∙ same ∙ ap (λ (r : List ℕ × List ℕ). r.0) b.3) in
       ap (λ (r : List ℕ × List ℕ). r.1) a.3 ∙ ap (λ (row : NameRow). decimal row.version) rows ∙ sym (ap (λ (r : List ℕ × List ℕ). r.1) b.3))
 
   pub never_redefined : NeverBy (is_redefined source) [] (occurrences_of tree)

@@ -38,18 +38,21 @@ use Rattle.gim_round_trip.proofs.tree.Writes.{WritesArg, WritesPhi, WritesStmt, 
 
 -- ---- jumps
 
-end_is_there : (source : List ℕ) (f : Function) (at : Span) (tree : Option EndText) (end : End) → WritesEnd source f tree end → end_fault at tree ≡ None
+end_is_there : (source : List ℕ) (f : Function) (at : Span) (tree : Option EndText) (end : End) → WritesEnd source f tree end
+    → end_fault at tree ≡ None
 end_is_there source f at None end h = absurd h
 end_is_there source f at (Some tree) end h = refl
 
 -- the jumps of an end name its targets
-jumps_named : (source : List ℕ) (f : Function) (tree : Option EndText) (end : End) → WritesEnd source f tree end → map (named_at source) (option_map_or jumps_of_end tree []) ≡ map decimal (targets_of end)
+jumps_named : (source : List ℕ) (f : Function) (tree : Option EndText) (end : End) → WritesEnd source f tree end
+    → map (named_at source) (option_map_or jumps_of_end tree []) ≡ map decimal (targets_of end)
 jumps_named source f (Some (Goto to)) (ends.Goto n) h = rw h refl
 jumps_named source f (Some (If code a b to otherwise)) (ends.If op x y m n) h = rw (h.3, h.4) refl
 jumps_named source f (Some (Return a)) (ends.Return x) h = refl
 jumps_named source f tree end h = absurd h
 
-jumps_free : (source : List ℕ) (is_there : List ℕ → Bool) (jumps : List Span) → list_all is_there (map (named_at source) jumps) ≡ true → first_fault (map (jump_fault source is_there) jumps) ≡ None
+jumps_free : (source : List ℕ) (is_there : List ℕ → Bool) (jumps : List Span) → list_all is_there (map (named_at source) jumps) ≡ true
+    → first_fault (map (jump_fault source is_there) jumps) ≡ None
 jumps_free source is_there [] lead = refl
 jumps_free source is_there (at ∷ jumps) lead =
     let p = and_parts (is_there (named_at source at)) (list_all is_there (map (named_at source) jumps)) lead in
@@ -57,21 +60,25 @@ jumps_free source is_there (at ∷ jumps) lead =
 
 -- ---- phis
 
-some_args : (source : List ℕ) (f : Function) (args : List ArgText) (pairs : List (ℕ × Operand)) → AllZip (WritesArg source f) args pairs → is_empty pairs ≡ false → has_args args ≡ true
+some_args : (source : List ℕ) (f : Function) (args : List ArgText) (pairs : List (ℕ × Operand)) → AllZip (WritesArg source f) args pairs
+    → is_empty pairs ≡ false → has_args args ≡ true
 some_args source f [] [] written some = absurd (false≢true (sym some))
 some_args source f [] (pair ∷ pairs) written some = absurd written
 some_args source f (arg ∷ args) pairs written some = refl
 
-stmts_free : (source : List ℕ) (f : Function) (from : List Span) (may : Bool) (texts : List ItemText) (stmts : List Stmt) → AllZip (WritesStmt source f) texts stmts → first_fault (item_faults source from may texts) ≡ None
+stmts_free : (source : List ℕ) (f : Function) (from : List Span) (may : Bool) (texts : List ItemText) (stmts : List Stmt)
+    → AllZip (WritesStmt source f) texts stmts → first_fault (item_faults source from may texts) ≡ None
 stmts_free source f from may [] stmts written = refl
 stmts_free source f from may (item ∷ texts) [] written = absurd written
 stmts_free source f from may (items.Phi name args ∷ texts) (stmt ∷ stmts) written = absurd written.0
 stmts_free source f from may (items.Stmt name right ∷ texts) (stmt ∷ stmts) written = stmts_free source f from false texts stmts written.1
 
 abbrev Fit : List ℕ → Function → List Span → List Phi → Type 0
-Fit source f from phis = (args : List ArgText) (phi : Phi) → Has phis phi → AllZip (WritesArg source f) args phi.args → args_fit source from args ≡ true
+Fit source f from phis = (args : List ArgText) (phi : Phi) → Has phis phi → AllZip (WritesArg source f) args phi.args → args_fit source from args
+    ≡ true
 
-phis_free : (source : List ℕ) (f : Function) (from : List Span) (texts later : List ItemText) (phis : List Phi) → AllZip (WritesPhi source f) texts phis → Fit source f from phis
+phis_free : (source : List ℕ) (f : Function) (from : List Span) (texts later : List ItemText) (phis : List Phi)
+    → AllZip (WritesPhi source f) texts phis → Fit source f from phis
     → first_fault (item_faults source from true later) ≡ None → first_fault (item_faults source from true (texts ++ later)) ≡ None
 phis_free source f from [] later phis written fit free = free
 phis_free source f from (item ∷ texts) later [] written fit free = absurd written
@@ -80,9 +87,11 @@ phis_free source f from (items.Phi name args ∷ texts) later (phi ∷ phis) wri
     rw (fit args phi (inl refl) written.0.1) (phis_free source f from texts later phis written.1 (λ a p there. fit a p (inr there)) free)
 
 -- items of which only statements stand where no phi may
-items_free : (source : List ℕ) (f : Function) (from : List Span) (may : Bool) (texts later : List ItemText) (phis : List Phi) (stmts : List Stmt) → AllZip (WritesPhi source f) texts phis → AllZip (WritesStmt source f) later stmts → Fit source f from phis
+items_free : (source : List ℕ) (f : Function) (from : List Span) (may : Bool) (texts later : List ItemText) (phis : List Phi) (stmts : List Stmt)
+    → AllZip (WritesPhi source f) texts phis → AllZip (WritesStmt source f) later stmts → Fit source f from phis
     → (may ≡ false → is_empty phis ≡ true) → first_fault (item_faults source from may (texts ++ later)) ≡ None
-items_free source f from true texts later phis stmts written others fit entry = phis_free source f from texts later phis written fit (stmts_free source f from true later stmts others)
+items_free source f from true texts later phis stmts written others fit entry = phis_free source f from texts later phis written fit
+    (stmts_free source f from true later stmts others)
 items_free source f from false [] later phis stmts written others fit entry = stmts_free source f from false later stmts others
 items_free source f from false (item ∷ texts) later [] stmts written others fit entry = absurd written
 items_free source f from false (item ∷ texts) later (phi ∷ phis) stmts written others fit entry = absurd (false≢true (entry refl))
@@ -97,15 +106,19 @@ abbrev number_if_jumps : ℕ → Block → List ℕ
 number_if_jumps n block = cond (list_any (λ to. to == n) (targets_of block.end)) (block.number ∷ []) []
 
 -- the numbers of the blocks that jump to a block
-predecessors_named : (source : List ℕ) (f : Function) (n : ℕ) → n < 1000000000 → (trees : List BlockText) (blocks : List Block) → ((block : Block) → Has blocks block → AreSmallNumbers (targets_of block.end)) → AllZip (WritesBlock source f) trees blocks
+predecessors_named : (source : List ℕ) (f : Function) (n : ℕ) → n < 1000000000 → (trees : List BlockText) (blocks : List Block)
+    → ((block : Block) → Has blocks block → AreSmallNumbers (targets_of block.end)) → AllZip (WritesBlock source f) trees blocks
     → map (text_of source) (predecessors source trees (decimal n)) ≡ map decimal (flat_map (number_if_jumps n) blocks)
 predecessors_named source f n small [] [] targets written = refl
 predecessors_named source f n small [] (block ∷ blocks) targets written = absurd written
 predecessors_named source f n small (tree ∷ trees) [] targets written = absurd written
 predecessors_named source f n small (tree ∷ trees) (block ∷ blocks) targets written =
     let jumps : jumps_to source (decimal n) tree ≡ list_any (λ to. to == n) (targets_of block.end) =
-    any_image (same_text (decimal n)) (named_at source) (jumps_of tree) ∙ ap (list_any (same_text (decimal n))) (jumps_named source f tree.end block.end written.0.end) ∙ among_decimals (targets_of block.end) n (targets block (inl refl)) small in
-    rw jumps (by (list_any (λ to. to == n) (targets_of block.end)) (predecessors_named source f n small trees blocks (λ b there. targets b (inr there)) written.1)) where
+    any_image (same_text (decimal n)) (named_at source) (jumps_of tree)
+    ∙ ap (list_any (same_text (decimal n))) (jumps_named source f tree.end block.end written.0.end)
+    ∙ among_decimals (targets_of block.end) n (targets block (inl refl)) small in
+    rw jumps (by (list_any (λ to. to == n) (targets_of block.end))
+    (predecessors_named source f n small trees blocks (λ b there. targets b (inr there)) written.1)) where
       by : (b : Bool) → map (text_of source) (predecessors source trees (decimal n)) ≡ map decimal (flat_map (number_if_jumps n) blocks)
           → map (text_of source) (map (λ (t : BlockText). t.number) (cond b (tree ∷ filter (jumps_to source (decimal n)) trees) (filter (jumps_to source (decimal n)) trees))) ≡ map decimal (cond b (block.number ∷ []) [] ++ flat_map (number_if_jumps n) blocks)
       by true rest = rw (written.0.number, rest) refl
@@ -115,15 +128,19 @@ predecessors_named source f n small (tree ∷ trees) (block ∷ blocks) targets 
 
 module _ (source : List ℕ) (tree : FunctionText) (f : Function) (w : WritesWell source tree f) where
   numbers_named : shape.numbers_of source tree.blocks ≡ map decimal (numbers_of f)
-  numbers_named = images_are_decimals (WritesBlock source f) (number_of source) (λ (b : Block). b.number) (λ t b h. h.number) tree.blocks f.blocks w.writes.blocks
+  numbers_named = images_are_decimals (WritesBlock source f) (number_of source) (λ (b : Block). b.number)
+      (λ t b h. h.number) tree.blocks f.blocks w.writes.blocks
 
   module _ (text : BlockText) (block : Block) (there : Has f.blocks block) (written : WritesBlock source f text block) where
     block_jumps_free : first_fault (map (jump_fault source (shape.is_among (shape.numbers_of source tree.blocks))) (jumps_of text)) ≡ None
     block_jumps_free =
-        let lead : list_all (λ n. ast.is_among n (numbers_of f)) (targets_of block.end) ≡ true = all_from_has (λ n. ast.is_among n (numbers_of f)) (targets_of block.end) (λ n here.
-        all_has (λ m. ast.is_among m (numbers_of f)) (flat_map (λ (b : Block). targets_of b.end) f.blocks) (of_blocks f w.well).targets n (has_flat (λ (b : Block). targets_of b.end) f.blocks block n there here)) in
+        let lead : list_all (λ n. ast.is_among n (numbers_of f)) (targets_of block.end) ≡ true = all_from_has (λ n. ast.is_among n (numbers_of f))
+        (targets_of block.end) (λ n here.
+        all_has (λ m. ast.is_among m (numbers_of f)) (flat_map (λ (b : Block). targets_of b.end) f.blocks) (of_blocks f w.well).targets n
+        (has_flat (λ (b : Block). targets_of b.end) f.blocks block n there here)) in
         jumps_free source (shape.is_among (shape.numbers_of source tree.blocks)) (jumps_of text)
-        (ap (list_all (shape.is_among (shape.numbers_of source tree.blocks))) (jumps_named source f text.end block.end written.end) ∙ ap (λ ts. list_all (shape.is_among ts) (map decimal (targets_of block.end))) numbers_named
+        (ap (list_all (shape.is_among (shape.numbers_of source tree.blocks))) (jumps_named source f text.end block.end written.end)
+        ∙ ap (λ ts. list_all (shape.is_among ts) (map decimal (targets_of block.end))) numbers_named
         ∙ all_among_decimals (numbers_of f) (targets_of block.end) (numbers_small f w.within) (targets_small f w.within w.well block there) ∙ lead)
 
     -- the arguments of a phi fit
@@ -134,10 +151,19 @@ module _ (source : List ℕ) (tree : FunctionText) (f : Function) (w : WritesWel
         let rules = phi_rules f block there w.well phi among in
         let small_here = predecessors_small f w.within block.number in
         let small_args = phi_blocks_small f w.within w.well block there phi among in
-        let named : named_by_args source args ≡ map decimal mine = images_are_decimals (WritesArg source f) (λ (arg : ArgText). named_at source arg.from) (λ (x : ℕ × Operand). x.0) (λ a x h. h.0) args phi.args written_args in
+        let named : named_by_args source args ≡ map decimal mine = images_are_decimals (WritesArg source f)
+        (λ (arg : ArgText). named_at source arg.from) (λ (x : ℕ × Operand). x.0) (λ a x h. h.0) args phi.args written_args in
         let once : is_each_once (map decimal wanted) (map decimal mine) ≡ true =
-        rw (distinct_decimals mine small_args, rules.distinct, all_among_decimals wanted mine small_here small_args, rules.only, all_among_decimals mine wanted small_args small_here, rules.each) refl in
-        and_from (has_args args) (is_each_once (map (text_of source) from) (named_by_args source args)) (some_args source f args phi.args written_args rules.some)
+        rw (
+          distinct_decimals mine small_args,
+          rules.distinct,
+          all_among_decimals wanted mine small_here small_args,
+          rules.only,
+          all_among_decimals mine wanted small_args small_here,
+          rules.each,
+        ) refl in
+        and_from (has_args args) (is_each_once (map (text_of source) from) (named_by_args source args))
+        (some_args source f args phi.args written_args rules.some)
         (ap (λ ts. is_each_once ts (named_by_args source args)) here ∙ ap (is_each_once (map decimal wanted)) named ∙ once)
 
     block_free : (may : Bool) → (may ≡ false → is_empty block.phis ≡ true) → first_fault (faults_among source tree.blocks may text) ≡ None
@@ -145,26 +171,35 @@ module _ (source : List ℕ) (tree : FunctionText) (f : Function) (w : WritesWel
         let from = predecessors source tree.blocks (number_of source text) in
         let here : map (text_of source) from ≡ map decimal (ast.predecessors f block.number) =
         ap (λ t. map (text_of source) (predecessors source tree.blocks t)) written.number
-        ∙ predecessors_named source f block.number (number_small f w.within block there) tree.blocks f.blocks (targets_small f w.within w.well) w.writes.blocks in
+        ∙ predecessors_named source f block.number (number_small f w.within block there) tree.blocks f.blocks
+        (targets_small f w.within w.well) w.writes.blocks in
         let parts_free : first_fault (item_faults source from may text.items) ≡ None =
-        ap (λ l. first_fault (item_faults source from may l)) written.in_order ∙ items_free source f from may written.phi_items written.stmt_items block.phis block.stmts written.phis written.stmts (phi_args_fit from here) entry in
+        ap (λ l. first_fault (item_faults source from may l)) written.in_order
+        ∙ items_free source f from may written.phi_items written.stmt_items block.phis block.stmts written.phis written.stmts
+        (phi_args_fit from here) entry in
         rw (end_is_there source f text.head text.end block.end written.end)
-        (none_joined (item_faults source from may text.items) (map (jump_fault source (shape.is_among (shape.numbers_of source tree.blocks))) (jumps_of text)) parts_free block_jumps_free)
+        (none_joined (item_faults source from may text.items) (map (jump_fault source (shape.is_among (shape.numbers_of source tree.blocks)))
+        (jumps_of text)) parts_free block_jumps_free)
 
 abbrev EachFree : List ℕ → Function → List BlockText → List Block → Type 0
-EachFree source f trees blocks = (text : BlockText) (block : Block) → Has blocks block → WritesBlock source f text block → (may : Bool) → (may ≡ false → is_empty block.phis ≡ true) → first_fault (faults_among source trees may text) ≡ None
+EachFree source f trees blocks = (text : BlockText) (block : Block) → Has blocks block → WritesBlock source f text block → (may : Bool)
+    → (may ≡ false → is_empty block.phis ≡ true) → first_fault (faults_among source trees may text) ≡ None
 
-body_free : (source : List ℕ) (f : Function) (close : Span) (trees : List BlockText) (blocks : List Block) → AllZip (WritesBlock source f) trees blocks → entry_has_no_phi blocks ≡ true → EachFree source f trees blocks → first_fault (body_faults source close trees) ≡ None
+body_free : (source : List ℕ) (f : Function) (close : Span) (trees : List BlockText) (blocks : List Block)
+    → AllZip (WritesBlock source f) trees blocks → entry_has_no_phi blocks ≡ true → EachFree source f trees blocks
+    → first_fault (body_faults source close trees) ≡ None
 body_free source f close trees [] written entry free = absurd (false≢true entry)
 body_free source f close [] (block ∷ blocks) written entry free = absurd written
 body_free source f close (tree ∷ trees) (block ∷ blocks) written entry free =
     let all = tree ∷ trees in
-    none_joined (faults_among source all false tree) (flat_map (faults_among source all true) trees) (free tree block (inl refl) written.0 false (λ e. entry))
+    none_joined (faults_among source all false tree) (flat_map (faults_among source all true) trees)
+    (free tree block (inl refl) written.0 false (λ e. entry))
     (none_of_each (faults_among source all true) trees (λ t there.
     let r = beside_first (WritesBlock source f) trees blocks written.1 t there in
     free t r.0 (inr r.1) r.2 true (λ e. absurd (false≢true (sym e)))))
 
-pub shape_sound : (source : List ℕ) (trees : List FunctionText) (fs : List Function) → AllZip (WritesWell source) trees fs → shape_fault source trees ≡ None
+pub shape_sound : (source : List ℕ) (trees : List FunctionText) (fs : List Function) → AllZip (WritesWell source) trees fs
+    → shape_fault source trees ≡ None
 unfolding shape_fault
 shape_sound source trees fs written =
     none_of_each (function_faults source) trees (λ tree there.

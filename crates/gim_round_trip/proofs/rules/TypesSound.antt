@@ -59,7 +59,8 @@ kept_one : (fits : Bool) (at : Span) → fits ≡ true → AreKept (mismatch fit
 kept_one fits at h place (inl e) = sym e ∙ ap (λ b. mismatch b at) h
 kept_one fits at h place (inr there) = absurd there
 
-form_kept : (source : List ℕ) (f : Function) (known : Declarations) (t : Ty) (form : RightForm) (rhs : Rhs) → WritesForm source f t form rhs → rhs_of known form ≡ rhs → rhs_fits t rhs ≡ true → form_fits known t form ≡ true
+form_kept : (source : List ℕ) (f : Function) (known : Declarations) (t : Ty) (form : RightForm) (rhs : Rhs) → WritesForm source f t form rhs
+    → rhs_of known form ≡ rhs → rhs_fits t rhs ≡ true → form_fits known t form ≡ true
 form_kept source f known t (Copy a) rhs written is fits = ap (rhs_fits t) is ∙ fits
 form_kept source f known t (Unary code a) rhs written is fits = ap (rhs_fits t) is ∙ fits
 form_kept source f known t (Binary code a b) rhs written is fits = ap (rhs_fits t) is ∙ fits
@@ -86,7 +87,8 @@ module _ (source : List ℕ) (tree : FunctionText) (f : Function) (w : WritesWel
         let x = beside_first (WritesArg source f) args phi.args written.1 arg.0 arg.1 in
         let typed = operand_type arg.0.operand x.0.1 x.2.1 (phi_operand f block there phi here x.0 x.1) in
         let fits : same_type (type_of_operand known arg.0.operand) (type_of_name known name) ≡ true =
-        ap (λ u. same_type u (type_of_name known name)) typed ∙ ap (same_type (type_of x.0.1)) t ∙ all_has (λ (a : ℕ × Operand). same_type (type_of a.1) row.0.ty) phi.args row.2 x.0 x.1 in
+        ap (λ u. same_type u (type_of_name known name)) typed ∙ ap (same_type (type_of x.0.1)) t
+        ∙ all_has (λ (a : ℕ × Operand). same_type (type_of a.1) row.0.ty) phi.args row.2 x.0 x.1 in
         sym arg.2 ∙ ap (λ b. mismatch b arg.0.from) fits
 
     stmt_kept : (item : ItemText) (stmt : Stmt) → Has block.stmts stmt → WritesStmt source f item stmt → AreKept (places_of_item known item)
@@ -97,16 +99,21 @@ module _ (source : List ℕ) (tree : FunctionText) (f : Function) (w : WritesWel
         let named : printing.type_of_name f stmt.name ≡ row.0.ty = (name_facts f stmt.name row.0 w.well w.within row.1).type in
         let form : WritesForm source f row.0.ty right.form stmt.rhs = subst (λ u. WritesForm source f u right.form stmt.rhs) named written.1 in
         let is = rhs_is source tree f w row.0.ty right.form stmt.rhs form (stmt_operand f block there stmt here) in
-        kept_one (form_fits known (type_of_name known name) right.form) right.start (ap (λ u. form_fits known u right.form) t ∙ form_kept source f known row.0.ty right.form stmt.rhs form is row.2)
+        kept_one (form_fits known (type_of_name known name) right.form) right.start
+        (ap (λ u. form_fits known u right.form) t ∙ form_kept source f known row.0.ty right.form stmt.rhs form is row.2)
 
-    end_kept : (text : Option EndText) (end : End) → WritesEnd source f text end → ((x : Operand) → Has (operands_of_end end) x → Has (operands_of f) x) → end_fits f end ≡ true → AreKept (places_of_end known tree.result text)
+    end_kept : (text : Option EndText) (end : End) → WritesEnd source f text end
+        → ((x : Operand) → Has (operands_of_end end) x → Has (operands_of f) x) → end_fits f end ≡ true
+        → AreKept (places_of_end known tree.result text)
     end_kept (Some (Goto to)) (ends.Goto n) written inside fits = λ place among. absurd among
     end_kept (Some (If code a b yes_at no_at)) (ends.If op x y yes_to no_to) written inside fits =
         let first = operand_type a x written.1 (inside x (inl refl)) in
         let second = operand_type b y written.2 (inside y (inr (inl refl))) in
-        kept_one (is_comparison_code code && same_type (type_of_operand known a) (type_of_operand known b)) (start_of a) (rw (written.0, first, second) fits)
+        kept_one (is_comparison_code code && same_type (type_of_operand known a) (type_of_operand known b)) (start_of a)
+        (rw (written.0, first, second) fits)
     end_kept (Some (Return a)) (ends.Return x) written inside fits =
-        kept_one (same_type (type_of_operand known a) tree.result) (start_of a) (rw (operand_type a x written (inside x (inl refl)), w.writes.result) fits)
+        kept_one (same_type (type_of_operand known a) tree.result) (start_of a)
+        (rw (operand_type a x written (inside x (inl refl)), w.writes.result) fits)
     end_kept text end written inside fits = absurd written
 
     block_kept : (text : BlockText) → WritesBlock source f text block → AreKept (places_of_block known tree.result text)
@@ -115,8 +122,10 @@ module _ (source : List ℕ) (tree : FunctionText) (f : Function) (w : WritesWel
           | inl front ↦
               let item = from_flat (places_of_item known) text.items place front in
               elim (has_either written.phi_items written.stmt_items item.0 (subst (λ l. Has l item.0) written.in_order item.1)) [
-                | inl among ↦ let phi = beside_first (WritesPhi source f) written.phi_items block.phis written.phis item.0 among in phi_kept item.0 phi.0 phi.1 phi.2 place item.2
-                | inr among ↦ let stmt = beside_first (WritesStmt source f) written.stmt_items block.stmts written.stmts item.0 among in stmt_kept item.0 stmt.0 stmt.1 stmt.2 place item.2
+                | inl among ↦ let phi = beside_first (WritesPhi source f) written.phi_items block.phis written.phis item.0 among in
+                    phi_kept item.0 phi.0 phi.1 phi.2 place item.2
+                | inr among ↦ let stmt = beside_first (WritesStmt source f) written.stmt_items block.stmts written.stmts item.0 among in
+                    stmt_kept item.0 stmt.0 stmt.1 stmt.2 place item.2
               ]
           | inr end ↦ end_kept text.end block.end written.end (end_operand f block there) (end_fits_here f block there w.well) place end
         ]
@@ -129,13 +138,16 @@ module _ (source : List ℕ) (tree : FunctionText) (f : Function) (w : WritesWel
 
 -- ---- the whole
 
-pub types_sound : (source : List ℕ) (trees : List FunctionText) (fs : List Function) → AllZip (WritesWell source) trees fs → types_fault source trees ≡ None
+pub types_sound : (source : List ℕ) (trees : List FunctionText) (fs : List Function) → AllZip (WritesWell source) trees fs
+    → types_fault source trees ≡ None
 unfolding types_fault
 types_sound source trees fs written = kept (flat_map (places_of_function source) trees) (λ place among.
     let tree = from_flat (places_of_function source) trees place among in
     let f = beside_first (WritesWell source) trees fs written tree.0 tree.1 in
     function_kept source tree.0 f.0 f.2 place tree.2)
 
-pub trees_stand : (source : List ℕ) (trees : List FunctionText) (fs : List Function) → AllZip (WritesWell source) trees fs → AllZip (StandsFor source) trees fs
+pub trees_stand : (source : List ℕ) (trees : List FunctionText) (fs : List Function) → AllZip (WritesWell source) trees fs
+    → AllZip (StandsFor source) trees fs
 trees_stand source trees fs written =
-    paired_by (WritesWell source) (StandsFor source) trees fs written (λ tree f w. record { whole = function_is source tree f w; names = names_stand source tree f w })
+    paired_by (WritesWell source) (StandsFor source) trees fs written
+    (λ tree f w. record { whole = function_is source tree f w; names = names_stand source tree f w })

@@ -26,7 +26,7 @@ use Rattle.gim_text.specs.declared.tree.ItemText.TheVariants as items
 use Rattle.gim_making.proofs.Membership.{Has, has_left, has_right, has_map, has_flat, all_has, any_has}
 use Rattle.gim_statements.specs.Grammar.{SpellsArg, SpellsArgs, SpellsItem}
 use Rattle.gim_round_trip.specs.ReadBack.{IsWithinLimits}
-use Rattle.gim_round_trip.proofs.tree.Rows.{name_facts}
+use Rattle.gim_round_trip.proofs.tree.Rows.{name_facts, HasBase, bare, of_param, of_local, base_of_row, declared_as}
 use Rattle.gim_round_trip.proofs.tree.SmallNumbers.{phi_blocks_small}
 use Rattle.gim_round_trip.proofs.tree.WellFormedParts.{phi_operand, stmt_operand, each_operand_holds, phi_row, phi_rules, stmt_row}
 use Rattle.gim_round_trip.proofs.text.Prints.{word_end, any_end, Prints, joined, seen, blanks_before, blanks_after}
@@ -38,31 +38,19 @@ use Rattle.gim_round_trip.proofs.tree.Writes.{WritesArg, WritesPhi, WritesStmt}
 
 -- ---- what is known of the parts of a block
 
--- what is declared with a type has one of the eleven
-declared_type : (ident : List ℕ) (t : Ty) (decls : List Decl) → ((decl : Decl) → Has decls decl → is_type_of decl.ty ≡ true) → declares_as ident t decls ≡ true → is_type_of t ≡ true
-declared_type ident t decls each declares =
-    let found = any_has (λ (decl : Decl). same_text decl.ident ident && same_type decl.ty t) decls declares in
-    subst (λ u. is_type_of u ≡ true) (same_type_is found.0.ty t (and_parts _ _ found.2).1) (each found.0 found.1)
-
 pub decl_type : (f : Function) (decl : Decl) → IsWellFormed f → Has (f.params ++ f.decls) decl → is_type_of decl.ty ≡ true
 decl_type f decl well there = all_has (λ (d : Decl). is_type_of d.ty) (f.params ++ f.decls) (and_parts _ _ well.types).1 decl there
 
--- a base is declared, as an anonymous local, a parameter or a local
-declared_somewhere : (b n local param other : Bool) → cond b (n && local) (param || (n && other)) ≡ true → (local ≡ true) ⊎ ((param ≡ true) ⊎ (other ≡ true))
-declared_somewhere true true local param other h = inl h
-declared_somewhere true false local param other h = absurd (false≢true h)
-declared_somewhere false n local true other h = inr (inl refl)
-declared_somewhere false true local false other h = inr (inr h)
-declared_somewhere false false local false other h = absurd (false≢true h)
+-- what is declared has one of the eleven types
+declared_type : (f : Function) (ident : List ℕ) (t : Ty) (decls : List Decl) → IsWellFormed f → ((decl : Decl) → Has decls decl → Has (f.params ++ f.decls) decl) → declares_as ident t decls ≡ true → is_type_of t ≡ true
+declared_type f ident t decls well within h = let decl = declared_as ident t decls h in subst (λ u. is_type_of u ≡ true) decl.3 (decl_type f decl.0 well (within decl.0 decl.1))
 
 row_type : (f : Function) (row : NameRow) → IsWellFormed f → base_holds f row ≡ true → is_type_of row.ty ≡ true
-row_type f row well holds =
-    let in_params = λ (decl : Decl) (there : Has f.params decl). decl_type f decl well (has_left f.params f.decls decl there) in
-    let in_decls = λ (decl : Decl) (there : Has f.decls decl). decl_type f decl well (has_right f.params f.decls decl there) in
-    elim (declared_somewhere (same_text row.base []) (not row.initial) (declares_as (anonymous row.version) row.ty f.decls) (declares_as row.base row.ty f.params) (declares_as row.base row.ty f.decls) holds) [
-      | inl local ↦ declared_type (anonymous row.version) row.ty f.decls in_decls local
-      | inr others ↦ elim others [ inl param ↦ declared_type row.base row.ty f.params in_params param | inr other ↦ declared_type row.base row.ty f.decls in_decls other ]
-    ]
+row_type f row well holds = by (base_of_row f row holds) where
+  by : HasBase f row → is_type_of row.ty ≡ true
+  by (bare is plain declared) = declared_type f (anonymous row.version) row.ty f.decls well (has_right f.params f.decls) declared
+  by (of_param b base is declared) = declared_type f (b ∷ base) row.ty f.params well (has_left f.params f.decls) declared
+  by (of_local b base is plain declared) = declared_type f (b ∷ base) row.ty f.decls well (has_right f.params f.decls) declared
 
 -- ---- phis
 

@@ -3,14 +3,18 @@ use Rattle.std.proofs.Common.{◌≡◌, Option, Some, None, List, [], ◌∷◌
 use Rattle.std.specs.List.{filter_map, cons_option}
 use Rattle.gim_making.proofs.Membership.{Has}
 
-pub kept_of_images : {X Y Z : Type 0} (picks : X → Option Z) (others : Y → Option Z) (v : X → Y) → ((x : X) → picks x ≡ others (v x)) → (xs : List X) → filter_map picks xs ≡ filter_map others (map v xs)
+pub kept_of_images : {X Y Z : Type 0} (picks : X → Option Z) (others : Y → Option Z) (v : X → Y) → ((x : X) → picks x ≡ others (v x)) → (xs : List X)
+    → filter_map picks xs ≡ filter_map others (map v xs)
 kept_of_images picks others v same [] = refl
-kept_of_images picks others v same (x ∷ xs) = ap (λ o. cons_option o (filter_map picks xs)) (same x) ∙ ap (λ l. cons_option (others (v x)) l) (kept_of_images picks others v same xs)
+kept_of_images picks others v same (x ∷ xs) = ap (λ o. cons_option o (filter_map picks xs)) (same x)
+    ∙ ap (λ l. cons_option (others (v x)) l) (kept_of_images picks others v same xs)
 
-pub images_kept : {X Y Z : Type 0} (picks : X → Option Z) (others : X → Option Y) (g : Y → Z) (xs : List X) → ((x : X) → Has xs x → picks x ≡ option_map g (others x)) → filter_map picks xs ≡ map g (filter_map others xs)
+pub images_kept : {X Y Z : Type 0} (picks : X → Option Z) (others : X → Option Y) (g : Y → Z) (xs : List X)
+    → ((x : X) → Has xs x → picks x ≡ option_map g (others x)) → filter_map picks xs ≡ map g (filter_map others xs)
 images_kept picks others g [] same = refl
 images_kept picks others g (x ∷ xs) same =
-    ap (λ o. cons_option o (filter_map picks xs)) (same x (inl refl)) ∙ ap (λ l. cons_option (option_map g (others x)) l) (images_kept picks others g xs (λ y there. same y (inr there))) ∙ by (others x) where
+    ap (λ o. cons_option o (filter_map picks xs)) (same x (inl refl))
+    ∙ ap (λ l. cons_option (option_map g (others x)) l) (images_kept picks others g xs (λ y there. same y (inr there))) ∙ by (others x) where
       by : (o : Option _) → cons_option (option_map g o) (map g (filter_map others xs)) ≡ map g (cons_option o (filter_map others xs))
       by None = refl
       by (Some y) = refl

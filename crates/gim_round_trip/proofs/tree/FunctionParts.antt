@@ -119,7 +119,8 @@ module _ (f : Function) where
   part_is (assigns x) there = subst (λ l. Has l x) names_are (has_said a_name (parts_of f) (assigns x) x there refl)
   part_is (reads a) there = subst (λ l. Has l a) operands_are (has_said an_operand (parts_of f) (reads a) a there refl)
 
-  is_there : {X : Type 0} (picks : Part → Option X) (v : X → Part) → ((part : Part) (x : X) → picks part ≡ Some x → part ≡ v x) → (xs : List X) → filter_map picks (parts_of f) ≡ xs → (x : X) → Has xs x → Has (parts_of f) (v x)
+  is_there : {X : Type 0} (picks : Part → Option X) (v : X → Part) → ((part : Part) (x : X) → picks part ≡ Some x → part ≡ v x) → (xs : List X)
+      → filter_map picks (parts_of f) ≡ xs → (x : X) → Has xs x → Has (parts_of f) (v x)
   is_there picks v only xs are x there =
       let part = from_said picks (parts_of f) x (subst (λ l. Has l x) (sym are) there) in
       subst (Has (parts_of f)) (only part.0 x part.2) part.1

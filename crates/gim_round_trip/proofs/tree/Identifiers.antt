@@ -5,7 +5,7 @@ use Rattle.std.specs.List.{list_all, list_any}
 use Rattle.std.specs.Fmt.{decimal}
 use Rattle.std.proofs.lemmas.Bool.{and_parts, and_from, or_cases, or_from, eqb-true, not_from_false, false_from_ne_true, false≢true}
 use Rattle.std.proofs.lemmas.List.Folds.{list_all-append}
-use Rattle.pm_wide.specs.Types.{same_type}
+use Rattle.pm_wide.specs.Types.{Ty}
 use Rattle.gim_ast.specs.declared.function.Function.{Function}
 use Rattle.gim_ast.specs.declared.function.Decl.{Decl}
 use Rattle.gim_ast.specs.declared.function.NameRow.{NameRow}
@@ -22,7 +22,7 @@ use Rattle.gim_text.proofs.NameLemmas.{no_parts_at}
 use Rattle.gim_making.proofs.Membership.{Has, has_map, has_left, has_right, all_has, none_from_has, any_has}
 use Rattle.gim_making.proofs.PartLemmas.{same_text_is}
 use Rattle.gim_round_trip.specs.ReadBack.{IsWithinLimits}
-use Rattle.gim_round_trip.proofs.tree.Rows.{name_facts}
+use Rattle.gim_round_trip.proofs.tree.Rows.{name_facts, HasBase, bare, of_param, of_local, base_of_row, declared_as}
 
 -- ---- reserved words are no names
 
@@ -54,7 +54,8 @@ named_is_free : (text base ds : List ℕ) → name_parts text ≡ Some (base, ds
 named_is_free text base ds parts =
     let other : list_any (λ word. same_text word text) reserved_words ≡ false =
     none_from_has (λ word. same_text word text) reserved_words
-    (λ word there same. some_parts word base ds (ap name_parts (same_text_is word text same) ∙ parts) (all_has has_no_parts reserved_words none_is_named word there)) in
+    (λ word there same. some_parts word base ds (ap name_parts (same_text_is word text same) ∙ parts)
+    (all_has has_no_parts reserved_words none_is_named word there)) in
     or_from (list_any (λ word. same_text word text) reserved_words) (is_block_word text) other
     (false_from_ne_true (is_block_word text) (block_word_has_no_parts text base ds parts))
 
@@ -65,7 +66,8 @@ IsBase : List ℕ → Type 0
 IsBase base = (base ≡ []) ⊎ (is_word_text base ≡ true)
 
 versioned : (base ds : List ℕ) → list_all is_word_byte ds ≡ true → list_all is_word_byte base ≡ true → list_all is_word_byte (base ++ 95 ∷ ds) ≡ true
-versioned base ds digits h = list_all-append is_word_byte base (95 ∷ ds) ∙ and_from (list_all is_word_byte base) (list_all is_word_byte (95 ∷ ds)) h digits
+versioned base ds digits h = list_all-append is_word_byte base (95 ∷ ds)
+    ∙ and_from (list_all is_word_byte base) (list_all is_word_byte (95 ∷ ds)) h digits
 
 name_is_word : (base ds : List ℕ) → list_all is_word_byte ds ≡ true → IsBase base → is_word_text (base ++ 95 ∷ ds) ≡ true
 unfolding IsBase
@@ -82,31 +84,31 @@ declared_is_word f well decl there =
     let last = and_parts _ _ well.declarations in
     let distinct = and_parts _ _ last.0 in
     let idents = (and_parts _ _ distinct.0).1 in
-    (and_parts (is_word_text decl.ident) (not (is_reserved decl.ident)) (all_has is_identifier (map ident_of (f.params ++ f.decls)) idents decl.ident (has_map ident_of (f.params ++ f.decls) decl there))).0
+    (and_parts (is_word_text decl.ident) (not (is_reserved decl.ident))
+    (all_has is_identifier (map ident_of (f.params ++ f.decls)) idents decl.ident (has_map ident_of (f.params ++ f.decls) decl there))).0
 
-base_declared : (f : Function) → IsWellFormed f → (row : NameRow) (decls : List Decl) → ((decl : Decl) → Has decls decl → Has (f.params ++ f.decls) decl) → declares_as row.base row.ty decls ≡ true → is_word_text row.base ≡ true
-base_declared f well row decls within h =
-    let found = any_has (λ (decl : Decl). same_text decl.ident row.base && same_type decl.ty row.ty) decls h in
-    let same : found.0.ident ≡ row.base = same_text_is found.0.ident row.base (and_parts (same_text found.0.ident row.base) (same_type found.0.ty row.ty) found.2).0 in
-    ap is_word_text (sym same) ∙ declared_is_word f well found.0 (within found.0 found.1)
+base_declared : (f : Function) (ident : List ℕ) (t : Ty) (decls : List Decl) → IsWellFormed f
+    → ((decl : Decl) → Has decls decl → Has (f.params ++ f.decls) decl) → declares_as ident t decls ≡ true → is_word_text ident ≡ true
+base_declared f ident t decls well within h = let decl = declared_as ident t decls h in ap is_word_text (sym decl.2)
+    ∙ declared_is_word f well decl.0 (within decl.0 decl.1)
 
 base_is_word : (f : Function) → IsWellFormed f → (row : NameRow) → base_holds f row ≡ true → IsBase row.base
 unfolding IsBase
-base_is_word f well row holds =
-    by (same_text row.base []) (same_text_is row.base []) holds where
-      by : (t : Bool) → (t ≡ true → row.base ≡ []) → cond t (not row.initial && declares_as (anonymous row.version) row.ty f.decls) (declares_as row.base row.ty f.params || (not row.initial && declares_as row.base row.ty f.decls)) ≡ true
-          → (row.base ≡ []) ⊎ (is_word_text row.base ≡ true)
-      by true nothing h = inl (nothing refl)
-      by false nothing h = elim (or_cases (declares_as row.base row.ty f.params) (not row.initial && declares_as row.base row.ty f.decls) h) [
-        | inl param ↦ inr (base_declared f well row f.params (λ decl there. has_left f.params f.decls decl there) param)
-        | inr local ↦ inr (base_declared f well row f.decls (λ decl there. has_right f.params f.decls decl there) (and_parts (not row.initial) (declares_as row.base row.ty f.decls) local).1)
-      ]
+base_is_word f well row holds = by (base_of_row f row holds) where
+  by : HasBase f row → (row.base ≡ []) ⊎ (is_word_text row.base ≡ true)
+  by (bare is plain declared) = inl is
+  by (of_param b base is declared) = inr (ap is_word_text is ∙ base_declared f (b ∷ base) row.ty f.params well (has_left f.params f.decls) declared)
+  by (of_local b base is plain declared) = inr (ap is_word_text is
+      ∙ base_declared f (b ∷ base) row.ty f.decls well (has_right f.params f.decls) declared)
 
 -- the text of a name is an identifier
-pub name_is_identifier : (f : Function) (x : ℕ) (row : NameRow) → IsWellFormed f → IsWithinLimits f → row_of f x ≡ Some row → is_identifier (assigned_text f x) ≡ true
+pub name_is_identifier : (f : Function) (x : ℕ) (row : NameRow) → IsWellFormed f → IsWithinLimits f → row_of f x ≡ Some row
+    → is_identifier (assigned_text f x) ≡ true
 name_is_identifier f x row well limits found =
     let facts = name_facts f x row well limits found in
     let small : x < 2 ^ 64 = omega (arith, facts.small) in
     let digits = number_is_word (decimal x) (decimal_is_number_text x small) in
-    let word : is_word_text (assigned_text f x) ≡ true = ap is_word_text facts.text ∙ name_is_word row.base (decimal x) digits (base_is_word f well row facts.base) in
-    and_from (is_word_text (assigned_text f x)) (not (is_reserved (assigned_text f x))) word (not_from_false (is_reserved (assigned_text f x)) (named_is_free (assigned_text f x) row.base (decimal x) facts.parts))
+    let word : is_word_text (assigned_text f x) ≡ true = ap is_word_text facts.text
+    ∙ name_is_word row.base (decimal x) digits (base_is_word f well row facts.base) in
+    and_from (is_word_text (assigned_text f x)) (not (is_reserved (assigned_text f x))) word
+    (not_from_false (is_reserved (assigned_text f x)) (named_is_free (assigned_text f x) row.base (decimal x) facts.parts))

@@ -30,7 +30,7 @@ use Rattle.gim_making.proofs.Membership.{Has, has_left, has_right, has_map, any_
 use Rattle.gim_making.proofs.PartLemmas.{text_itself, same_text_is}
 use Rattle.gim_round_trip.specs.ReadBack.{IsWithinLimits}
 use Rattle.gim_round_trip.proofs.tree.DistinctTexts.{front_distinct, rest_distinct, not_again, apart}
-use Rattle.gim_round_trip.proofs.tree.Rows.{name_facts}
+use Rattle.gim_round_trip.proofs.tree.Rows.{name_facts, HasBase, bare, of_param, of_local, base_of_row, declared_as}
 use Rattle.gim_round_trip.proofs.tree.SmallNumbers.{number_of_decimal}
 use Rattle.gim_round_trip.proofs.tree.WellFormedParts.{each_operand_holds, operand_row}
 use Rattle.gim_round_trip.proofs.tree.Writes.{WritesWell, WritesDecl, WritesOperand}
@@ -38,17 +38,12 @@ use Rattle.gim_round_trip.proofs.tree.Writes.{WritesWell, WritesDecl, WritesOper
 -- ---- types of identifiers
 
 idents_distinct : (f : Function) → IsWellFormed f → all_distinct same_text (map ident_of f.params ++ map ident_of f.decls) ≡ true
-idents_distinct f well = subst (λ l. all_distinct same_text l ≡ true) (map-append ident_of f.params f.decls) (and_parts _ _ (and_parts _ _ well.declarations).0).1
-
--- what is declared is the identifier and the type of a declaration
-pub declared_as : (ident : List ℕ) (t : Ty) (decls : List Decl) → declares_as ident t decls ≡ true → (decl : Decl) × Has decls decl × (decl.ident ≡ ident) × (decl.ty ≡ t)
-declared_as ident t decls h =
-    let r = any_has (λ (decl : Decl). same_text decl.ident ident && same_type decl.ty t) decls h in
-    let p = and_parts (same_text r.0.ident ident) (same_type r.0.ty t) r.2 in
-    (r.0, r.1, same_text_is r.0.ident ident p.0, same_type_is r.0.ty t p.1)
+idents_distinct f well = subst (λ l. all_distinct same_text l ≡ true) (map-append ident_of f.params f.decls)
+    (and_parts _ _ (and_parts _ _ well.declarations).0).1
 
 -- distinct identifiers have the types of their declarations
-type_declared : (source : List ℕ) (trees : List DeclText) (decls : List Decl) → AllZip (WritesDecl source) trees decls → all_distinct same_text (map ident_of decls) ≡ true → (decl : Decl) → Has decls decl
+type_declared : (source : List ℕ) (trees : List DeclText) (decls : List Decl) → AllZip (WritesDecl source) trees decls
+    → all_distinct same_text (map ident_of decls) ≡ true → (decl : Decl) → Has decls decl
     → declared_type source decl.ident trees ≡ Some decl.ty
 type_declared source trees [] written distinct decl h = absurd h
 type_declared source [] (d ∷ decls) written distinct decl h = absurd written
@@ -65,13 +60,16 @@ type_declared source (tree ∷ trees) (d ∷ decls) written distinct decl (inr t
     ap (λ b. cond b (Some tree.ty) (declared_type source decl.ident trees)) other ∙ type_declared source trees decls written.1 later decl there
 
 -- another identifier has none
-none_declared : (source ident : List ℕ) (trees : List DeclText) (decls : List Decl) → AllZip (WritesDecl source) trees decls → (Has (map ident_of decls) ident → ⊥) → declared_type source ident trees ≡ None
+none_declared : (source ident : List ℕ) (trees : List DeclText) (decls : List Decl) → AllZip (WritesDecl source) trees decls
+    → (Has (map ident_of decls) ident → ⊥) → declared_type source ident trees ≡ None
 none_declared source ident [] decls written other = refl
 none_declared source ident (tree ∷ trees) [] written other = absurd written
 none_declared source ident (tree ∷ trees) (d ∷ decls) written other =
     let first : same_text ident (text_of source tree.ident) ≡ false =
-    false_from_ne_true (same_text ident (text_of source tree.ident)) (λ same. other (inl (sym (same_text_is ident (text_of source tree.ident) same ∙ written.0.0)))) in
-    ap (λ b. cond b (Some tree.ty) (declared_type source ident trees)) first ∙ none_declared source ident trees decls written.1 (λ there. other (inr there))
+    false_from_ne_true (same_text ident (text_of source tree.ident))
+    (λ same. other (inl (sym (same_text_is ident (text_of source tree.ident) same ∙ written.0.0)))) in
+    ap (λ b. cond b (Some tree.ty) (declared_type source ident trees)) first
+    ∙ none_declared source ident trees decls written.1 (λ there. other (inr there))
 
 -- the parts, the version and the type of a name that stands at a place
 pub record KnownName (source : List ℕ) (tree : FunctionText) (at : Span) (x : ℕ) (row : NameRow) : Type 0 where
@@ -84,7 +82,8 @@ module _ (source : List ℕ) (tree : FunctionText) (f : Function) (w : WritesWel
   param_type ident t h =
       let d = declared_as ident t f.params h in
       let distinct = front_distinct (map ident_of f.params) (map ident_of f.decls) (idents_distinct f w.well) in
-      ap (λ i. declared_type source i tree.params) (sym d.2) ∙ type_declared source tree.params f.params w.writes.params distinct d.0 d.1 ∙ ap Some d.3
+      ap (λ i. declared_type source i tree.params) (sym d.2) ∙ type_declared source tree.params f.params w.writes.params distinct d.0 d.1
+      ∙ ap Some d.3
 
   local_type : (ident : List ℕ) (t : Ty) → declares_as ident t f.decls ≡ true → declared_type source ident tree.decls ≡ Some t
   local_type ident t h =
@@ -97,33 +96,32 @@ module _ (source : List ℕ) (tree : FunctionText) (f : Function) (w : WritesWel
   no_param_type ident t h =
       let d = declared_as ident t f.decls h in
       let local : Has (map ident_of f.decls) ident = subst (Has (map ident_of f.decls)) d.2 (has_map ident_of f.decls d.0 d.1) in
-      none_declared source ident tree.params f.params w.writes.params (λ there. apart (map ident_of f.params) (map ident_of f.decls) (idents_distinct f w.well) ident there local)
+      none_declared source ident tree.params f.params w.writes.params
+      (λ there. apart (map ident_of f.params) (map ident_of f.decls) (idents_distinct f w.well) ident there local)
 
   -- the declaration of a row's base, or of the whole name, gives its type
   base_type : (row : NameRow) → base_holds f row ≡ true
       → type_by_base (declarations_of source tree) (row.base ++ 95 ∷ decimal row.version) row.base ≡ Some row.ty
-  base_type row holds = by row.base holds where
-    by : (base : List ℕ) → cond (same_text base []) (not row.initial && declares_as (anonymous row.version) row.ty f.decls) (declares_as base row.ty f.params || (not row.initial && declares_as base row.ty f.decls)) ≡ true
-        → type_by_base (declarations_of source tree) (base ++ 95 ∷ decimal row.version) base ≡ Some row.ty
-    by [] h = local_type (anonymous row.version) row.ty (and_parts (not row.initial) (declares_as (anonymous row.version) row.ty f.decls) h).1
-    by (b ∷ base) h =
-        let ident = b ∷ base in
-        elim (or_cases (declares_as ident row.ty f.params) (not row.initial && declares_as ident row.ty f.decls) h) [
-          | inl param ↦ ap (λ o. option_or o (declared_type source ident tree.decls)) (param_type ident row.ty param)
-          | inr other ↦
-              let local = (and_parts (not row.initial) (declares_as ident row.ty f.decls) other).1 in
-              ap (λ o. option_or o (declared_type source ident tree.decls)) (no_param_type ident row.ty local) ∙ local_type ident row.ty local
-        ]
+  base_type row holds = by (base_of_row f row holds) where
+    by : HasBase f row → type_by_base (declarations_of source tree) (row.base ++ 95 ∷ decimal row.version) row.base ≡ Some row.ty
+    by (bare is plain declared) = rw is (local_type (anonymous row.version) row.ty declared)
+    by (of_param b base is declared) = rw is (ap (λ o. option_or o (declared_type source (b ∷ base) tree.decls))
+        (param_type (b ∷ base) row.ty declared))
+    by (of_local b base is plain declared) = rw is (ap (λ o. option_or o (declared_type source (b ∷ base) tree.decls))
+        (no_param_type (b ∷ base) row.ty declared) ∙ local_type (b ∷ base) row.ty declared)
 
   -- ---- names
 
-  pub known_name : (at : Span) (x : ℕ) (row : NameRow) → text_of source at ≡ assigned_text f x → row_of f x ≡ Some row → KnownName source tree at x row
+  pub known_name : (at : Span) (x : ℕ) (row : NameRow) → text_of source at ≡ assigned_text f x → row_of f x ≡ Some row
+      → KnownName source tree at x row
   known_name at x row text found =
       let known = declarations_of source tree in
       let facts = name_facts f x row w.well w.within found in
       let parts : name_parts (text_of source at) ≡ Some (row.base, decimal x) = ap name_parts text ∙ facts.parts in
-      let whole : text_of source at ≡ row.base ++ 95 ∷ decimal row.version = text ∙ facts.text ∙ ap (λ v. row.base ++ 95 ∷ decimal v) (sym facts.is_version) in
-      let typed : type_by_base known (text_of source at) row.base ≡ Some row.ty = ap (λ t. type_by_base known t row.base) whole ∙ base_type row facts.base in
+      let whole : text_of source at ≡ row.base ++ 95 ∷ decimal row.version = text ∙ facts.text
+      ∙ ap (λ v. row.base ++ 95 ∷ decimal v) (sym facts.is_version) in
+      let typed : type_by_base known (text_of source at) row.base ≡ Some row.ty = ap (λ t. type_by_base known t row.base) whole
+      ∙ base_type row facts.base in
       record {
         parts = parts;
         version = ap version_by_parts parts ∙ number_of_decimal x facts.small;
@@ -140,7 +138,8 @@ module _ (source : List ℕ) (tree : FunctionText) (f : Function) (w : WritesWel
       ap (λ v. operands.Name v (type_of_name (declarations_of source tree) at)) k.version ∙ ap (operands.Name x) (k.type ∙ r.2)
 
   -- an operand of the function is what the text that writes it stands for
-  pub operand_is : (a : OperandText) (x : Operand) → WritesOperand source f a x → Has (operands_of f) x → operand_of (declarations_of source tree) a ≡ x
+  pub operand_is : (a : OperandText) (x : Operand) → WritesOperand source f a x → Has (operands_of f) x
+      → operand_of (declarations_of source tree) a ≡ x
   operand_is (Name at) (operands.Name x t) written there = named_operand at x t written.0 there
   operand_is (Default at) (operands.Name x t) written there = named_operand at x t written.0 there
   operand_is (Literal literal) (operands.Const word) written there = ap (λ o. operands.Const (unwrap_or o no_word)) written

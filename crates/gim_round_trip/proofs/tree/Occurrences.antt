@@ -86,13 +86,18 @@ module _ (source : List ℕ) (f : Function) where
   Say os ps = map (said source) os ≡ map (told f) ps
 
   both_say : (os us : List Occurrence) (ps qs : List Part) → Say os ps → Say us qs → Say (os ++ us) (ps ++ qs)
-  both_say os us ps qs first second = map-append (said source) os us ∙ ap (λ l. l ++ map (said source) us) first ∙ ap (λ l. map (told f) ps ++ l) second ∙ sym (map-append (told f) ps qs)
+  both_say os us ps qs first second = map-append (said source) os us ∙ ap (λ l. l ++ map (said source) us) first
+      ∙ ap (λ l. map (told f) ps ++ l) second ∙ sym (map-append (told f) ps qs)
 
-  all_say : {X Y : Type 0} (R : X → Y → Type 0) (v : X → List Occurrence) (u : Y → List Part) (xs : List X) (ys : List Y) → ((x : X) (y : Y) → R x y → Say (v x) (u y)) → AllZip R xs ys → Say (flat_map v xs) (flat_map u ys)
-  all_say R v u xs ys each written = map_of_flat (said source) v xs ∙ same_flat_images R (λ x. map (said source) (v x)) (λ y. map (told f) (u y)) xs ys each written ∙ sym (map_of_flat (told f) u ys)
+  all_say : {X Y : Type 0} (R : X → Y → Type 0) (v : X → List Occurrence) (u : Y → List Part) (xs : List X) (ys : List Y)
+      → ((x : X) (y : Y) → R x y → Say (v x) (u y)) → AllZip R xs ys → Say (flat_map v xs) (flat_map u ys)
+  all_say R v u xs ys each written = map_of_flat (said source) v xs
+      ∙ same_flat_images R (λ x. map (said source) (v x)) (λ y. map (told f) (u y)) xs ys each written ∙ sym (map_of_flat (told f) u ys)
 
-  each_says : {X Y : Type 0} (R : X → Y → Type 0) (v : X → Occurrence) (u : Y → Part) (xs : List X) (ys : List Y) → ((x : X) (y : Y) → R x y → said source (v x) ≡ told f (u y)) → AllZip R xs ys → Say (map v xs) (map u ys)
-  each_says R v u xs ys each written = map-map (said source) v xs ∙ same_images R (λ x. said source (v x)) (λ y. told f (u y)) xs ys each written ∙ sym (map-map (told f) u ys)
+  each_says : {X Y : Type 0} (R : X → Y → Type 0) (v : X → Occurrence) (u : Y → Part) (xs : List X) (ys : List Y)
+      → ((x : X) (y : Y) → R x y → said source (v x) ≡ told f (u y)) → AllZip R xs ys → Say (map v xs) (map u ys)
+  each_says R v u xs ys each written = map-map (said source) v xs ∙ same_images R (λ x. said source (v x)) (λ y. told f (u y)) xs ys each written
+      ∙ sym (map-map (told f) u ys)
 
   operand_says : (a : OperandText) (x : Operand) → WritesOperand source f a x → said source (occurrence_of_operand a) ≡ told f (reads x)
   operand_says (texts.Name at) (operands.Name x t) w = rw (w.0, w.1) refl
@@ -100,7 +105,8 @@ module _ (source : List ℕ) (f : Function) where
   operand_says (texts.Literal literal) (operands.Const word) w = ap (λ word. an_operand (a_word word)) w
   operand_says a x w = absurd w
 
-  form_says : (t : Ty) (form : RightForm) (rhs : Rhs) → WritesForm source f t form rhs → Say (occurrences_of_right form) (map reads (operands_of_rhs rhs))
+  form_says : (t : Ty) (form : RightForm) (rhs : Rhs) → WritesForm source f t form rhs
+      → Say (occurrences_of_right form) (map reads (operands_of_rhs rhs))
   form_says t (Copy a) (sides.Copy x) w = rw (operand_says a x w) refl
   form_says t (Unary code a) (sides.Op op (x ∷ [])) w = rw (operand_says a x w.1) refl
   form_says t (Cast to a) (sides.Op op (x ∷ [])) w = rw (operand_says a x w.2) refl
@@ -113,7 +119,8 @@ module _ (source : List ℕ) (f : Function) where
 
   phi_says : (item : ItemText) (phi : Phi) → WritesPhi source f item phi → Say (occurrences_of_item item) (parts_of_phi phi)
   phi_says (items.Stmt name right) phi w = absurd w
-  phi_says (items.Phi name args) phi w = rw (w.0) (ap (λ l. an_assigned (assigned_text f phi.name) ∷ l) (all_say (WritesArg source f) occurrences_of_argument parts_of_arg args phi.args argument_says w.1))
+  phi_says (items.Phi name args) phi w = rw (w.0) (ap (λ l. an_assigned (assigned_text f phi.name) ∷ l)
+      (all_say (WritesArg source f) occurrences_of_argument parts_of_arg args phi.args argument_says w.1))
 
   stmt_says : (item : ItemText) (stmt : Stmt) → WritesStmt source f item stmt → Say (occurrences_of_item item) (parts_of_stmt stmt)
   stmt_says (items.Phi name args) stmt w = absurd w
@@ -129,14 +136,18 @@ module _ (source : List ℕ) (f : Function) where
   block_says text block w =
       let phis = all_say (WritesPhi source f) occurrences_of_item parts_of_phi w.phi_items block.phis phi_says w.phis in
       let stmts = all_say (WritesStmt source f) occurrences_of_item parts_of_stmt w.stmt_items block.stmts stmt_says w.stmts in
-      let in_order : flat_map occurrences_of_item text.items ≡ flat_map occurrences_of_item w.phi_items ++ flat_map occurrences_of_item w.stmt_items = ap (flat_map occurrences_of_item) w.in_order ∙ flat_map-append occurrences_of_item w.phi_items w.stmt_items in
-      let lines : Say (flat_map occurrences_of_item text.items) (flat_map parts_of_phi block.phis ++ flat_map parts_of_stmt block.stmts) = ap (map (said source)) in_order ∙ both_say _ _ _ _ phis stmts in
-      both_say (BlockAt text.number ∷ flat_map occurrences_of_item text.items) (occurrences_of_end text.end) (head block.number ∷ (flat_map parts_of_phi block.phis ++ flat_map parts_of_stmt block.stmts)) (parts_of_end block.end)
+      let in_order : flat_map occurrences_of_item text.items ≡ flat_map occurrences_of_item w.phi_items ++ flat_map occurrences_of_item w.stmt_items =
+      ap (flat_map occurrences_of_item) w.in_order ∙ flat_map-append occurrences_of_item w.phi_items w.stmt_items in
+      let lines : Say (flat_map occurrences_of_item text.items) (flat_map parts_of_phi block.phis ++ flat_map parts_of_stmt block.stmts) = ap
+      (map (said source)) in_order ∙ both_say _ _ _ _ phis stmts in
+      both_say (BlockAt text.number ∷ flat_map occurrences_of_item text.items) (occurrences_of_end text.end)
+      (head block.number ∷ (flat_map parts_of_phi block.phis ++ flat_map parts_of_stmt block.stmts)) (parts_of_end block.end)
       (rw (w.number) (ap (λ l. a_head (decimal block.number) ∷ l) lines)) (end_says text.end block.end w.end)
 
   pub occurrences_say : (tree : FunctionText) → Writes source tree f → Say (occurrences_of tree) (parts_of f)
   occurrences_say tree w =
       let params = each_says (WritesDecl source) occurrence_of_parameter parameter tree.params f.params (λ decl d h. ap a_parameter h.0) w.params in
       let locals = each_says (WritesDecl source) occurrence_of_local local tree.decls f.decls (λ decl d h. ap a_local h.0) w.decls in
-      both_say (map occurrence_of_parameter tree.params ++ map occurrence_of_local tree.decls) (flat_map occurrences_of_block tree.blocks) (map parameter f.params ++ map local f.decls) (flat_map parts_of_block f.blocks)
+      both_say (map occurrence_of_parameter tree.params ++ map occurrence_of_local tree.decls) (flat_map occurrences_of_block tree.blocks)
+      (map parameter f.params ++ map local f.decls) (flat_map parts_of_block f.blocks)
       (both_say _ _ _ _ params locals) (all_say (WritesBlock source f) occurrences_of_block parts_of_block tree.blocks f.blocks block_says w.blocks)

@@ -34,7 +34,8 @@ of_assigned reading (an_assigned text) = reading text
 of_assigned reading saying = None
 
 module _ (source : List ℕ) (tree : FunctionText) (f : Function) (w : WritesWell source tree f) where
-  idents_written : (texts : List DeclText) (decls : List Decl) → AllZip (WritesDecl source) texts decls → map (ident_text source) texts ≡ map ident_of decls
+  idents_written : (texts : List DeclText) (decls : List Decl) → AllZip (WritesDecl source) texts decls
+      → map (ident_text source) texts ≡ map ident_of decls
   idents_written texts decls written = same_images (WritesDecl source) (ident_text source) ident_of texts decls (λ text decl h. h.0) written
 
   pub params_said : filter_map (param_text source) (occurrences_of tree) ≡ map ident_of f.params
@@ -51,15 +52,19 @@ module _ (source : List ℕ) (tree : FunctionText) (f : Function) (w : WritesWel
   pub numbers_said : filter_map (block_number source) (occurrences_of tree) ≡ map decimal (numbers_of f)
   numbers_said =
       (declares source tree).blocks
-      ∙ same_images (WritesBlock source f) (number_text source) (λ (block : Block). decimal block.number) tree.blocks f.blocks (λ text block h. h.number) w.writes.blocks
+      ∙ same_images (WritesBlock source f) (number_text source) (λ (block : Block). decimal block.number) tree.blocks f.blocks
+      (λ text block h. h.number) w.writes.blocks
       ∙ sym (map-map decimal (λ (block : Block). block.number) f.blocks)
 
   -- what is read of each name that is assigned
-  names_said : (says : Occurrence → Option (List ℕ)) (reading : List ℕ → Option (List ℕ)) (g : ℕ → List ℕ) → ((o : Occurrence) → says o ≡ of_assigned reading (said source o))
+  names_said : (says : Occurrence → Option (List ℕ)) (reading : List ℕ → Option (List ℕ)) (g : ℕ → List ℕ)
+      → ((o : Occurrence) → says o ≡ of_assigned reading (said source o))
       → ((x : ℕ) → Has (assigned f) x → reading (assigned_text f x) ≡ Some (g x)) → filter_map says (occurrences_of tree) ≡ map g (assigned f)
   names_said says reading g same each =
-      kept_of_images says (of_assigned reading) (said source) same (occurrences_of tree) ∙ ap (filter_map (of_assigned reading)) (occurrences_say source f tree w.writes)
-      ∙ filter_of_map (of_assigned reading) (told f) (parts_of f) ∙ images_kept (λ part. of_assigned reading (told f part)) a_name g (parts_of f) by ∙ ap (map g) (names_are f) where
+      kept_of_images says (of_assigned reading) (said source) same (occurrences_of tree)
+      ∙ ap (filter_map (of_assigned reading)) (occurrences_say source f tree w.writes)
+      ∙ filter_of_map (of_assigned reading) (told f) (parts_of f) ∙ images_kept (λ part. of_assigned reading (told f part)) a_name g (parts_of f) by
+      ∙ ap (map g) (names_are f) where
         by : (part : Part) → Has (parts_of f) part → of_assigned reading (told f part) ≡ option_map g (a_name part)
         by (assigns x) there = each x (part_is f (assigns x) there)
         by part there = refl
@@ -71,7 +76,8 @@ module _ (source : List ℕ) (tree : FunctionText) (f : Function) (w : WritesWel
     same o = refl
 
   pub versions_said : filter_map (assigned_version source) (occurrences_of tree) ≡ map decimal (assigned f)
-  versions_said = names_said (assigned_version source) (λ text. version_in (name_parts text)) decimal same (λ x there. let row = assigned_row f w.well x there in ap version_in (name_facts f x row.0 w.well w.within row.1).parts) where
-    same : (o : Occurrence) → assigned_version source o ≡ of_assigned (λ text. version_in (name_parts text)) (said source o)
-    same (Assigned at) = refl
-    same o = refl
+  versions_said = names_said (assigned_version source) (λ text. version_in (name_parts text)) decimal same
+      (λ x there. let row = assigned_row f w.well x there in ap version_in (name_facts f x row.0 w.well w.within row.1).parts) where
+        same : (o : Occurrence) → assigned_version source o ≡ of_assigned (λ text. version_in (name_parts text)) (said source o)
+        same (Assigned at) = refl
+        same o = refl

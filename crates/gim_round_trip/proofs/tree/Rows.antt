@@ -4,7 +4,7 @@ use Rattle.std.specs.Prelude.{◌==◌, ◌&&◌, ◌||◌, not, nat_lt}
 use Rattle.std.specs.List.{list_all, list_any, flat_map}
 use Rattle.std.specs.Option.{option_map_or, unwrap_or}
 use Rattle.std.specs.Fmt.{decimal}
-use Rattle.std.proofs.lemmas.Bool.{and_parts, eqb-true, eq-eqb, ltb-true, not-true, false≢true}
+use Rattle.std.proofs.lemmas.Bool.{and_parts, or_cases, eqb-true, eq-eqb, ltb-true, not-true, false≢true}
 use Rattle.std.proofs.lemmas.Fmt.{decimal_injective}
 use Rattle.pm_wide.specs.Types.{Ty, same_type}
 use Rattle.pm_wide.specs.declared.operand.Operand.{Operand}
@@ -20,7 +20,7 @@ use Rattle.gim_ast.specs.Functions.{operands_of, assigned, targets_of, row_of, i
 use Rattle.gim_ast.specs.Identifiers.{is_anonymous, anonymous}
 use Rattle.gim_printer.specs.Printing.{name_text, assigned_text, type_of_name, base_of}
 use Rattle.gim_ast.specs.Readable.{is_initial}
-use Rattle.gim_ast.specs.WellFormed.{IsWellFormed, same_text, all_distinct, rises, declares_as, base_holds, row_stands, initial_bases, names_hold, operand_holds, block_fits, phi_fits, stmt_fits, rhs_fits, numbers_of, is_among, is_assigned, blocks_hold, entry_has_no_phi, is_empty, predecessors, phi_blocks, phi_holds, type_of}
+use Rattle.gim_ast.specs.WellFormed.{IsWellFormed, ident_of, same_text, all_distinct, rises, declares_as, base_holds, row_stands, initial_bases, names_hold, operand_holds, block_fits, phi_fits, stmt_fits, rhs_fits, numbers_of, is_among, is_assigned, blocks_hold, entry_has_no_phi, is_empty, predecessors, phi_blocks, phi_holds, type_of}
 use Rattle.lexing.proofs.NumberLemmas.{number_below-decimal, decimal_is_number_text}
 use Rattle.gim_text.specs.Texts.{name_parts}
 use Rattle.gim_text.proofs.NameLemmas.{parts_found}
@@ -53,10 +53,12 @@ of_names f well =
 
 pub row_found : (f : Function) → IsWellFormed f → (row : NameRow) → Has f.names row → row_of f row.version ≡ Some row
 unfolding row_of
-row_found f well row there = first_of_here f.names row there (λ other has same. one_of_version f.names (of_names f well).rising other row has there same)
+row_found f well row there = first_of_here f.names row there (λ other has same. one_of_version f.names
+    (of_names f well).rising other row has there same)
 
 pub version_small : (f : Function) → IsWithinLimits f → (row : NameRow) → Has f.names row → row.version < 1000000000
-version_small f limits row there = ltb-true row.version 1000000000 (all_has (λ v. nat_lt v 1000000000) (map version_of f.names) limits.versions row.version (has_map version_of f.names row there))
+version_small f limits row there = ltb-true row.version 1000000000
+    (all_has (λ v. nat_lt v 1000000000) (map version_of f.names) limits.versions row.version (has_map version_of f.names row there))
 
 -- what is known of the name whose row this is
 pub record NameFacts (f : Function) (x : ℕ) (row : NameRow) : Type 0 where
@@ -80,8 +82,10 @@ name_facts f x row well limits found =
     let has : Has f.names row = first_of_in x f.names row found in
     let version : row.version ≡ x = first_of_has x f.names row found in
     let small : x < 1000000000 = omega (arith, version_small f limits row has, version) in
-    let text : assigned_text f x ≡ row.base ++ 95 ∷ decimal x = ap (λ o. name_text (option_map_or (λ (r : NameRow). r.base) o []) x) found ∙ underscored row.base (decimal x) in
-    let both = and_parts (base_holds f row) (row_stands f row) (all_has (λ (r : NameRow). base_holds f r && row_stands f r) f.names (of_names f well).rows row has) in
+    let text : assigned_text f x ≡ row.base ++ 95 ∷ decimal x = ap (λ o. name_text (option_map_or (λ (r : NameRow). r.base) o []) x) found
+    ∙ underscored row.base (decimal x) in
+    let both = and_parts (base_holds f row) (row_stands f row) (all_has (λ (r : NameRow). base_holds f r && row_stands f r) f.names
+    (of_names f well).rows row has) in
     record {
       is_version = version;
       small = small;
@@ -95,11 +99,14 @@ name_facts f x row well limits found =
     }
 
 -- an assigned name is no default definition
-pub assigned_is_not_initial : (f : Function) (x : ℕ) (row : NameRow) → IsWellFormed f → IsWithinLimits f → Has (assigned f) x → row_of f x ≡ Some row → row.initial ≡ false
+pub assigned_is_not_initial : (f : Function) (x : ℕ) (row : NameRow) → IsWellFormed f → IsWithinLimits f → Has (assigned f) x → row_of f x ≡ Some row
+    → row.initial ≡ false
 assigned_is_not_initial f x row well limits there found =
     let facts = name_facts f x row well limits found in
-    let assigned_here : is_assigned f row.version ≡ true = any_from_has (λ y. y == row.version) (assigned f) x there (eq-eqb x row.version (sym facts.is_version)) in
-    by row.initial (is_assigned f row.version) (is_used f row.version) (is_assigned f row.version || (same_text row.base [] && not (is_used f row.version))) refl assigned_here facts.stands where
+    let assigned_here : is_assigned f row.version ≡ true = any_from_has (λ y. y == row.version) (assigned f) x there
+    (eq-eqb x row.version (sym facts.is_version)) in
+    by row.initial (is_assigned f row.version) (is_used f row.version)
+    (is_assigned f row.version || (same_text row.base [] && not (is_used f row.version))) refl assigned_here facts.stands where
       by : (initial a u other : Bool) → row.initial ≡ initial → a ≡ true → cond initial (not a && u) other ≡ true → row.initial ≡ false
       by false a u other is h stands = is
       by true true u other is h stands = absurd (false≢true stands)
@@ -107,16 +114,18 @@ assigned_is_not_initial f x row well limits there found =
 
 -- a name that is used and is no default definition is assigned
 pub used_is_assigned : (f : Function) (row : NameRow) → row_stands f row ≡ true → row.initial ≡ false → is_used f row.version ≡ true → is_assigned f row.version ≡ true
-used_is_assigned f row stands plain used = by row.initial (is_assigned f row.version) (same_text row.base []) (is_used f row.version) stands plain used where
-  by : (initial a bare u : Bool) → cond initial (not a && u) (a || (bare && not u)) ≡ true → initial ≡ false → u ≡ true → a ≡ true
-  by true a bare u stands plain used = absurd (false≢true (sym plain))
-  by false true bare u stands plain used = refl
-  by false false true true stands plain used = stands
-  by false false true false stands plain used = used
-  by false false false u stands plain used = stands
+used_is_assigned f row stands plain used = by row.initial (is_assigned f row.version) (same_text row.base [])
+    (is_used f row.version) stands plain used where
+      by : (initial a bare u : Bool) → cond initial (not a && u) (a || (bare && not u)) ≡ true → initial ≡ false → u ≡ true → a ≡ true
+      by true a bare u stands plain used = absurd (false≢true (sym plain))
+      by false true bare u stands plain used = refl
+      by false false true true stands plain used = stands
+      by false false true false stands plain used = used
+      by false false false u stands plain used = stands
 
 -- an anonymous local is the name of a row without a base
-pub local_row : (f : Function) → IsWellFormed f → (decl : Decl) → Has f.decls decl → is_anonymous decl.ident ≡ true → (row : NameRow) × Has f.names row × (row.base ≡ []) × (anonymous row.version ≡ decl.ident)
+pub local_row : (f : Function) → IsWellFormed f → (decl : Decl) → Has f.decls decl → is_anonymous decl.ident ≡ true
+    → (row : NameRow) × Has f.names row × (row.base ≡ []) × (anonymous row.version ≡ decl.ident)
 local_row f well decl there bare =
     let is_row = λ (d : Decl) (row : NameRow). same_text row.base [] && same_text (anonymous row.version) d.ident in
     let either = all_has (λ (d : Decl). not (is_anonymous d.ident) || list_any (is_row d) f.names) f.decls (of_names f well).locals decl there in
@@ -124,10 +133,38 @@ local_row f well decl there bare =
     let both = and_parts _ _ row.2 in
     (row.0, row.1, same_text_is row.0.base [] both.0, same_text_is (anonymous row.0.version) decl.ident both.1)
 
+-- ---- bases
+
+-- where the base of a row is declared, with its type: an anonymous name as a local, another base as a parameter or a local
+pub data HasBase (f : Function) (row : NameRow) : Type 0 where
+  bare : row.base ≡ [] → row.initial ≡ false → declares_as (anonymous row.version) row.ty f.decls ≡ true → HasBase f row
+  of_param : (b : ℕ) (base : List ℕ) → row.base ≡ b ∷ base → declares_as (b ∷ base) row.ty f.params ≡ true → HasBase f row
+  of_local : (b : ℕ) (base : List ℕ) → row.base ≡ b ∷ base → row.initial ≡ false → declares_as (b ∷ base) row.ty f.decls ≡ true → HasBase f row
+
+pub base_of_row : (f : Function) (row : NameRow) → base_holds f row ≡ true → HasBase f row
+base_of_row f row holds = by row.base refl holds where
+  by : (base : List ℕ) → row.base ≡ base
+      → cond (same_text base []) (not row.initial && declares_as (anonymous row.version) row.ty f.decls) (declares_as base row.ty f.params || (not row.initial && declares_as base row.ty f.decls)) ≡ true → HasBase f row
+  by [] is h = let p = and_parts (not row.initial) (declares_as (anonymous row.version) row.ty f.decls) h in bare is (not-true row.initial p.0) p.1
+  by (b ∷ base) is h = elim (or_cases (declares_as (b ∷ base) row.ty f.params) (not row.initial && declares_as (b ∷ base) row.ty f.decls) h) [
+    | inl param ↦ of_param b base is param
+    | inr local ↦ let p = and_parts (not row.initial) (declares_as (b ∷ base) row.ty f.decls) local in
+        of_local b base is (not-true row.initial p.0) p.1
+  ]
+
+-- what is declared is the identifier and the type of a declaration
+pub declared_as : (ident : List ℕ) (t : Ty) (decls : List Decl) → declares_as ident t decls ≡ true
+    → (decl : Decl) × Has decls decl × (decl.ident ≡ ident) × (decl.ty ≡ t)
+declared_as ident t decls h =
+    let r = any_has (λ (decl : Decl). same_text decl.ident ident && same_type decl.ty t) decls h in
+    let p = and_parts (same_text r.0.ident ident) (same_type r.0.ty t) r.2 in
+    (r.0, r.1, same_text_is r.0.ident ident p.0, same_type_is r.0.ty t p.1)
+
 -- a row without a base is declared as a local, and is no default definition
-pub bare_row : (f : Function) (row : NameRow) → base_holds f row ≡ true → row.base ≡ [] → (row.initial ≡ false) × (declares_as (anonymous row.version) row.ty f.decls ≡ true)
-bare_row f row holds bare =
-    let local = not row.initial && declares_as (anonymous row.version) row.ty f.decls in
-    let other = declares_as row.base row.ty f.params || (not row.initial && declares_as row.base row.ty f.decls) in
-    let p = and_parts (not row.initial) (declares_as (anonymous row.version) row.ty f.decls) (subst (λ b. cond b local other ≡ true) (ap (λ base. same_text base []) bare ∙ text_itself []) holds) in
-    (not-true row.initial p.0, p.1)
+pub bare_row : (f : Function) (row : NameRow) → base_holds f row ≡ true → row.base ≡ []
+    → (row.initial ≡ false) × (declares_as (anonymous row.version) row.ty f.decls ≡ true)
+bare_row f row holds empty = by (base_of_row f row holds) where
+  by : HasBase f row → (row.initial ≡ false) × (declares_as (anonymous row.version) row.ty f.decls ≡ true)
+  by (bare is plain declared) = (plain, declared)
+  by (of_param b base is declared) = absurd cc
+  by (of_local b base is plain declared) = absurd cc

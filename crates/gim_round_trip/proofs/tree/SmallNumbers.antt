@@ -48,30 +48,31 @@ same_small a b small_a small_b = both_ways (same_text (decimal a) (decimal b)) (
 turned_small : (a b : ℕ) → a < 1000000000 → b < 1000000000 → same_text (decimal a) (decimal b) ≡ (b == a)
 turned_small a b small_a small_b = same_text_symm (decimal a) (decimal b) ∙ same_small b a small_b small_a
 
-pub among_decimals : (ns : List ℕ) (n : ℕ) → AreSmallNumbers ns → n < 1000000000 → shape.is_among (map decimal ns) (decimal n) ≡ ast.is_among n ns
-among_decimals [] n small one = refl
-among_decimals (m ∷ ns) n small one =
-    ap (λ b. b || shape.is_among (map decimal ns) (decimal n)) (turned_small n m one (small m (inl refl))) ∙ ap (λ b. (m == n) || b) (among_decimals ns n (λ k there. small k (inr there)) one)
+any_decimal : (same : ℕ → Bool) (n : ℕ) (ns : List ℕ) → ((m : ℕ) → Has ns m → same_text (decimal n) (decimal m) ≡ same m)
+    → list_any (same_text (decimal n)) (map decimal ns) ≡ list_any same ns
+any_decimal same n [] each = refl
+any_decimal same n (m ∷ ns) each = rw (each m (inl refl), any_decimal same n ns (λ k there. each k (inr there))) refl
 
-any_decimal : (n : ℕ) (ns : List ℕ) → n < 1000000000 → AreSmallNumbers ns → list_any (same_text (decimal n)) (map decimal ns) ≡ list_any (λ m. n == m) ns
-any_decimal n [] one small = refl
-any_decimal n (m ∷ ns) one small =
-    ap (λ b. b || list_any (same_text (decimal n)) (map decimal ns)) (same_small n m one (small m (inl refl))) ∙ ap (λ b. (n == m) || b) (any_decimal n ns one (λ k there. small k (inr there)))
+pub among_decimals : (ns : List ℕ) (n : ℕ) → AreSmallNumbers ns → n < 1000000000 → shape.is_among (map decimal ns) (decimal n) ≡ ast.is_among n ns
+among_decimals ns n small one = any_decimal (λ m. m == n) n ns (λ m there. turned_small n m one (small m there))
 
 pub distinct_decimals : (ns : List ℕ) → AreSmallNumbers ns → all_distinct same_text (map decimal ns) ≡ all_distinct ◌==◌ ns
 distinct_decimals [] small = refl
 distinct_decimals (n ∷ ns) small =
-    let later : AreSmallNumbers ns = λ m there. small m (inr there) in
-    ap (λ b. not b && all_distinct same_text (map decimal ns)) (any_decimal n ns (small n (inl refl)) later) ∙ ap (λ b. not (list_any (λ m. n == m) ns) && b) (distinct_decimals ns later)
+    rw (
+      any_decimal (λ m. n == m) n ns (λ m there. same_small n m (small n (inl refl)) (small m (inr there))),
+      distinct_decimals ns (λ m there. small m (inr there)),
+    ) refl
 
-pub all_among_decimals : (wanted ns : List ℕ) → AreSmallNumbers wanted → AreSmallNumbers ns → list_all (shape.is_among (map decimal wanted)) (map decimal ns) ≡ list_all (λ n. ast.is_among n wanted) ns
+pub all_among_decimals : (wanted ns : List ℕ) → AreSmallNumbers wanted → AreSmallNumbers ns
+    → list_all (shape.is_among (map decimal wanted)) (map decimal ns) ≡ list_all (λ n. ast.is_among n wanted) ns
 all_among_decimals wanted [] small_wanted small = refl
 all_among_decimals wanted (n ∷ ns) small_wanted small =
-    ap (λ b. b && list_all (shape.is_among (map decimal wanted)) (map decimal ns)) (among_decimals wanted n small_wanted (small n (inl refl)))
-    ∙ ap (λ b. ast.is_among n wanted && b) (all_among_decimals wanted ns small_wanted (λ m there. small m (inr there)))
+    rw (among_decimals wanted n small_wanted (small n (inl refl)), all_among_decimals wanted ns small_wanted (λ m there. small m (inr there))) refl
 
 -- texts that are the decimals of the numbers of their partners
-pub images_are_decimals : {X Y : Type 0} (R : X → Y → Type 0) (g : X → List ℕ) (h : Y → ℕ) → ((x : X) (y : Y) → R x y → g x ≡ decimal (h y)) → (xs : List X) (ys : List Y) → AllZip R xs ys → map g xs ≡ map decimal (map h ys)
+pub images_are_decimals : {X Y : Type 0} (R : X → Y → Type 0) (g : X → List ℕ) (h : Y → ℕ) → ((x : X) (y : Y) → R x y → g x ≡ decimal (h y))
+    → (xs : List X) (ys : List Y) → AllZip R xs ys → map g xs ≡ map decimal (map h ys)
 images_are_decimals R g h same xs ys zip = same_images R g (λ y. decimal (h y)) xs ys same zip ∙ sym (map-map decimal h ys)
 
 -- ---- the numbers of blocks
@@ -99,7 +100,8 @@ module _ (f : Function) (limits : IsWithinLimits f) where
     pub targets_small : (block : Block) → Has f.blocks block → AreSmallNumbers (targets_of block.end)
     targets_small block there n leads =
         among_small (numbers_of f) numbers_small n
-        (all_has (λ m. ast.is_among m (numbers_of f)) _ (of_blocks f well).targets n (has_flat (λ (b : Block). targets_of b.end) f.blocks block n there leads))
+        (all_has (λ m. ast.is_among m (numbers_of f)) _ (of_blocks f well).targets n
+        (has_flat (λ (b : Block). targets_of b.end) f.blocks block n there leads))
 
     pub phi_blocks_small : (block : Block) → Has f.blocks block → (phi : Phi) → Has block.phis phi → AreSmallNumbers (phi_blocks phi)
     phi_blocks_small block there phi here n named =

@@ -53,20 +53,37 @@ module _ (source : List ℕ) (tree : FunctionText) (f : Function) (w : WritesWel
   abbrev known : Declarations
   known = declarations_of source tree
 
-  pub rhs_is : (t : Ty) (form : RightForm) (rhs : Rhs) → WritesForm source f t form rhs → ((x : Operand) → Has (operands_of_rhs rhs) x → Has (operands_of f) x) → rhs_of known form ≡ rhs
+  pub rhs_is : (t : Ty) (form : RightForm) (rhs : Rhs) → WritesForm source f t form rhs
+      → ((x : Operand) → Has (operands_of_rhs rhs) x → Has (operands_of f) x) → rhs_of known form ≡ rhs
   rhs_is t (Copy a) (sides.Copy x) written inside = rw (operand_is source tree f w a x written (inside x (inl refl))) refl
   rhs_is t (Unary code a) (sides.Op op (x ∷ [])) written inside = rw (written.0, operand_is source tree f w a x written.1 (inside x (inl refl))) refl
   rhs_is t (Cast to a) (sides.Op op (x ∷ [])) written inside = rw (written.0, operand_is source tree f w a x written.2 (inside x (inl refl))) refl
   rhs_is t (Binary code a b) (sides.Op op (x ∷ y ∷ [])) written inside =
-      rw (written.0, operand_is source tree f w a x written.1 (inside x (inl refl)), operand_is source tree f w b y written.2 (inside y (inr (inl refl)))) refl
+      rw (
+        written.0,
+        operand_is source tree f w a x written.1 (inside x (inl refl)),
+        operand_is source tree f w b y written.2 (inside y (inr (inl refl))),
+      ) refl
   rhs_is t (Choice a b c) (sides.Op op (x ∷ y ∷ z ∷ [])) written inside =
-      rw (written.0, operand_is source tree f w a x written.1 (inside x (inl refl)), operand_is source tree f w b y written.2 (inside y (inr (inl refl))), operand_is source tree f w c z written.3 (inside z (inr (inr (inl refl))))) refl
+      rw (
+        written.0,
+        operand_is source tree f w a x written.1 (inside x (inl refl)),
+        operand_is source tree f w b y written.2 (inside y (inr (inl refl))),
+        operand_is source tree f w c z written.3 (inside z (inr (inr (inl refl)))),
+      ) refl
   rhs_is t form rhs written inside = absurd written
 
-  end_is : (text : Option EndText) (end : End) → WritesEnd source f text end → ((x : Operand) → Has (operands_of_end end) x → Has (operands_of f) x) → AreSmallNumbers (targets_of end) → end_of known text ≡ end
+  end_is : (text : Option EndText) (end : End) → WritesEnd source f text end → ((x : Operand) → Has (operands_of_end end) x → Has (operands_of f) x)
+      → AreSmallNumbers (targets_of end) → end_of known text ≡ end
   end_is (Some (Goto to)) (ends.Goto n) written inside small = rw (block_number_is source to n written (small n (inl refl))) refl
   end_is (Some (If code a b yes_at no_at)) (ends.If op x y yes_to no_to) written inside small =
-      rw (written.0, operand_is source tree f w a x written.1 (inside x (inl refl)), operand_is source tree f w b y written.2 (inside y (inr (inl refl))), block_number_is source yes_at yes_to written.3 (small yes_to (inl refl)), block_number_is source no_at no_to written.4 (small no_to (inr (inl refl)))) refl
+      rw (
+        written.0,
+        operand_is source tree f w a x written.1 (inside x (inl refl)),
+        operand_is source tree f w b y written.2 (inside y (inr (inl refl))),
+        block_number_is source yes_at yes_to written.3 (small yes_to (inl refl)),
+        block_number_is source no_at no_to written.4 (small no_to (inr (inl refl))),
+      ) refl
   end_is (Some (Return a)) (ends.Return x) written inside small = rw (operand_is source tree f w a x written (inside x (inl refl))) refl
   end_is text end written inside small = absurd written
 
@@ -74,19 +91,29 @@ module _ (source : List ℕ) (tree : FunctionText) (f : Function) (w : WritesWel
     arg_is : (phi : Phi) → Has block.phis phi → (arg : ArgText) (x : ℕ × Operand) → Has phi.args x → WritesArg source f arg x → arg_of known arg ≡ x
     arg_is phi here arg x among written =
         let small = phi_blocks_small f w.within w.well block there phi here x.0 (has_map (λ (a : ℕ × Operand). a.0) phi.args x among) in
-        rw (block_number_is source arg.from x.0 written.0 small, operand_is source tree f w arg.operand x.1 written.1 (phi_operand f block there phi here x among)) refl
+        rw (
+          block_number_is source arg.from x.0 written.0 small,
+          operand_is source tree f w arg.operand x.1 written.1
+              (phi_operand f block there phi here x among),
+        ) refl
 
     phi_is : (item : ItemText) (phi : Phi) → Has block.phis phi → WritesPhi source f item phi → phi_of known item ≡ phi ∷ []
     phi_is (items.Stmt name right) phi here written = absurd written
     phi_is (items.Phi name args) phi here written =
         let row = phi_row f block there w.well phi here in
-        rw ((known_name source tree f w name phi.name row.0 written.0 row.1).version, map_is (WritesArg source f) (arg_of known) args phi.args written.1 (arg_is phi here)) refl
+        rw (
+          (known_name source tree f w name phi.name row.0 written.0 row.1).version,
+          map_is (WritesArg source f) (arg_of known) args phi.args written.1 (arg_is phi here),
+        ) refl
 
     stmt_is : (item : ItemText) (stmt : Stmt) → Has block.stmts stmt → WritesStmt source f item stmt → stmt_of known item ≡ stmt ∷ []
     stmt_is (items.Phi name args) stmt here written = absurd written
     stmt_is (items.Stmt name right) stmt here written =
         let row = stmt_row f block there w.well stmt here in
-        rw ((known_name source tree f w name stmt.name row.0 written.0 row.1).version, rhs_is (type_of_name f stmt.name) right.form stmt.rhs written.1 (stmt_operand f block there stmt here)) refl
+        rw (
+          (known_name source tree f w name stmt.name row.0 written.0 row.1).version,
+          rhs_is (type_of_name f stmt.name) right.form stmt.rhs written.1 (stmt_operand f block there stmt here),
+        ) refl
 
     no_stmt : (item : ItemText) (phi : Phi) → WritesPhi source f item phi → stmt_of known item ≡ []
     no_stmt (items.Phi name args) phi written = refl
@@ -98,22 +125,28 @@ module _ (source : List ℕ) (tree : FunctionText) (f : Function) (w : WritesWel
 
     block_is : (text : BlockText) → WritesBlock source f text block → block_of known text ≡ block
     block_is text written =
-        let number : number_of (text_of source text.number) ≡ block.number = ap number_of written.number ∙ number_of_decimal block.number (number_small f w.within block there) in
+        let number : number_of (text_of source text.number) ≡ block.number = ap number_of written.number
+        ∙ number_of_decimal block.number (number_small f w.within block there) in
         let phis : flat_map (phi_of known) text.items ≡ block.phis =
         ap (flat_map (phi_of known)) written.in_order ∙ flat_map-append (phi_of known) written.phi_items written.stmt_items
-        ∙ ap (λ l. flat_map (phi_of known) written.phi_items ++ l) (nothing_is (WritesStmt source f) (phi_of known) written.stmt_items block.stmts written.stmts no_phi)
+        ∙ ap (λ l. flat_map (phi_of known) written.phi_items ++ l)
+        (nothing_is (WritesStmt source f) (phi_of known) written.stmt_items block.stmts written.stmts no_phi)
         ∙ append-nil (flat_map (phi_of known) written.phi_items)
         ∙ flat_map_is (WritesPhi source f) (phi_of known) written.phi_items block.phis written.phis phi_is in
         let stmts : flat_map (stmt_of known) text.items ≡ block.stmts =
         ap (flat_map (stmt_of known)) written.in_order ∙ flat_map-append (stmt_of known) written.phi_items written.stmt_items
-        ∙ ap (λ l. l ++ flat_map (stmt_of known) written.stmt_items) (nothing_is (WritesPhi source f) (stmt_of known) written.phi_items block.phis written.phis no_stmt)
+        ∙ ap (λ l. l ++ flat_map (stmt_of known) written.stmt_items)
+        (nothing_is (WritesPhi source f) (stmt_of known) written.phi_items block.phis written.phis no_stmt)
         ∙ flat_map_is (WritesStmt source f) (stmt_of known) written.stmt_items block.stmts written.stmts stmt_is in
         rw (number, phis, stmts, end_is text.end block.end written.end (end_operand f block there) (targets_small f w.within w.well block there)) refl
 
   pub function_is : f ≡ made source tree f.names
   unfolding made
   function_is =
-      let params : map (decl_of source) tree.params ≡ f.params = map_is (WritesDecl source) (decl_of source) tree.params f.params w.writes.params (λ text decl there. decl_is source text decl) in
-      let decls : map (decl_of source) tree.decls ≡ f.decls = map_is (WritesDecl source) (decl_of source) tree.decls f.decls w.writes.decls (λ text decl there. decl_is source text decl) in
-      let blocks : map (block_of known) tree.blocks ≡ f.blocks = map_is (WritesBlock source f) (block_of known) tree.blocks f.blocks w.writes.blocks (λ text block there. block_is block there text) in
+      let params : map (decl_of source) tree.params ≡ f.params = map_is (WritesDecl source) (decl_of source) tree.params f.params w.writes.params
+      (λ text decl there. decl_is source text decl) in
+      let decls : map (decl_of source) tree.decls ≡ f.decls = map_is (WritesDecl source) (decl_of source) tree.decls f.decls w.writes.decls
+      (λ text decl there. decl_is source text decl) in
+      let blocks : map (block_of known) tree.blocks ≡ f.blocks = map_is (WritesBlock source f) (block_of known) tree.blocks f.blocks w.writes.blocks
+      (λ text block there. block_is block there text) in
       rw (w.writes.name, w.writes.result, params, decls, blocks) refl

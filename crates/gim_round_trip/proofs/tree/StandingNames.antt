@@ -25,10 +25,13 @@ use Rattle.gim_round_trip.proofs.tree.Writes.{WritesWell}
 -- ---- rows that are the same
 
 -- a row that stands among some of these names is the first of its version there
-first_there : (names rows : List NameRow) → rises (map version_of names) ≡ true → ((row : NameRow) → Has rows row → Has names row) → (row : NameRow) → Has names row → Has rows row → first_of row.version rows ≡ Some row
-first_there names rows up among row named there = first_of_here rows row there (λ other has same. one_of_version names up other row (among other has) named same)
+first_there : (names rows : List NameRow) → rises (map version_of names) ≡ true → ((row : NameRow) → Has rows row → Has names row) → (row : NameRow)
+    → Has names row → Has rows row → first_of row.version rows ≡ Some row
+first_there names rows up among row named there = first_of_here rows row there
+    (λ other has same. one_of_version names up other row (among other has) named same)
 
-same_first : (names rows : List NameRow) → rises (map version_of names) ≡ true → ((row : NameRow) → Has rows row → Has names row) → ((row : NameRow) → Has names row → Has rows row) → (v : ℕ) → first_of v names ≡ first_of v rows
+same_first : (names rows : List NameRow) → rises (map version_of names) ≡ true → ((row : NameRow) → Has rows row → Has names row)
+    → ((row : NameRow) → Has names row → Has rows row) → (v : ℕ) → first_of v names ≡ first_of v rows
 same_first names rows up among back v = by (first_of v names) refl (first_of v rows) refl where
   by : (a : Option NameRow) → first_of v names ≡ a → (b : Option NameRow) → first_of v rows ≡ b → a ≡ b
   by None nowhere None none_there = refl
@@ -43,9 +46,11 @@ same_first names rows up among back v = by (first_of v names) refl (first_of v r
 
 -- ---- the names
 
-same_row : (m : ℕ) (t : Ty) (mark : Bool) (row : NameRow) → m ≡ row.version → t ≡ row.ty → mark ≡ row.initial → (let made : NameRow = record { version = m; base = row.base; ty = t; initial = mark } in made) ≡ row
+same_row : (m : ℕ) (t : Ty) (mark : Bool) (row : NameRow) → m ≡ row.version → t ≡ row.ty → mark ≡ row.initial
+    → (let made : NameRow = record { version = m; base = row.base; ty = t; initial = mark } in made) ≡ row
 same_row m t mark row version type initial =
-    ap (λ v. record { version = v; base = row.base; ty = t; initial = mark }) version ∙ ap (λ u. record { version = row.version; base = row.base; ty = u; initial = mark }) type
+    ap (λ v. record { version = v; base = row.base; ty = t; initial = mark }) version
+    ∙ ap (λ u. record { version = row.version; base = row.base; ty = u; initial = mark }) type
     ∙ ap (λ i. record { version = row.version; base = row.base; ty = row.ty; initial = i }) initial
 
 abbrev place_at : Occurrence → Span → NamePlace
@@ -60,7 +65,8 @@ module _ (source : List ℕ) (tree : FunctionText) (f : Function) (w : WritesWel
   place_rows o at row is =
       let name = known_name source tree f w at row.version row is.name.named (row_found f w.well row is.name.in_names) in
       ap (rows_by_parts known (place_at o at)) name.parts
-      ∙ ap (λ r. r ∷ []) (same_row (number_of (decimal row.version)) (type_of_name known at) (is_default o) row (number_of_decimal row.version is.name.small) name.type is.mark)
+      ∙ ap (λ r. r ∷ []) (same_row (number_of (decimal row.version)) (type_of_name known at) (is_default o) row
+      (number_of_decimal row.version is.name.small) name.type is.mark)
 
   row_is_named : (row : NameRow) → Has (named_rows source tree) row → Has f.names row
   row_is_named row there =
@@ -71,7 +77,8 @@ module _ (source : List ℕ) (tree : FunctionText) (f : Function) (w : WritesWel
         only one (inl e) named = subst (Has f.names) e named
         only one (inr h) named = absurd h
 
-        by : (o : Occurrence) → Has (occurrences_of tree) o → (place : NamePlace) → Has (rows_of_place known place) row → (at : Option Span) → name_at source o ≡ at → option_map (place_at o) at ≡ Some place → Has f.names row
+        by : (o : Occurrence) → Has (occurrences_of tree) o → (place : NamePlace) → Has (rows_of_place known place) row → (at : Option Span)
+            → name_at source o ≡ at → option_map (place_at o) at ≡ Some place → Has f.names row
         by o among place inside None e is = absurd cc
         by o among place inside (Some at) e is =
             let name = name_of source tree f w o at (occurrence_is source tree f w o among) e in
@@ -82,7 +89,8 @@ module _ (source : List ℕ) (tree : FunctionText) (f : Function) (w : WritesWel
   name_has_row row named =
       let o = row_occurs source tree f w row named in
       let place = place_at o.0 o.2 in
-      has_flat (rows_of_place known) (names_in source tree) place row (has_said (name_place source) (occurrences_of tree) o.0 place o.1 (ap (option_map (place_at o.0)) o.3.place))
+      has_flat (rows_of_place known) (names_in source tree) place row
+      (has_said (name_place source) (occurrences_of tree) o.0 place o.1 (ap (option_map (place_at o.0)) o.3.place))
       (subst (λ l. Has l row) (sym (place_rows o.0 o.2 row o.3)) (inl refl))
 
   pub names_stand : AreNames (named_rows source tree) f.names

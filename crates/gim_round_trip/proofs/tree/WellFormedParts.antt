@@ -56,7 +56,8 @@ module _ (f : Function) (block : Block) (there : Has f.blocks block) where
   pub end_operand : (x : Operand) → Has (operands_of_end block.end) x → Has (operands_of f) x
   unfolding operands_of
   end_operand x stands =
-      has_flat operands_of_block f.blocks block x there (has_right (flat_map operands_of_phi block.phis ++ flat_map operands_of_stmt block.stmts) _ _ stands)
+      has_flat operands_of_block f.blocks block x there (has_right
+      (flat_map operands_of_phi block.phis ++ flat_map operands_of_stmt block.stmts) _ _ stands)
 
   module _ (well : IsWellFormed f) where
     fits : block_fits f block ≡ true
@@ -67,21 +68,25 @@ module _ (f : Function) (block : Block) (there : Has f.blocks block) where
 
     pub phi_rules : (phi : Phi) → Has block.phis phi → PhiHolds f block.number phi
     phi_rules phi here =
-        let last = and_parts _ _ (all_has (phi_holds f block.number) block.phis (all_has (λ (b : Block). list_all (phi_holds f b.number) b.phis) f.blocks (of_blocks f well).phis block there) phi here) in
+        let last = and_parts _ _ (all_has (phi_holds f block.number) block.phis
+        (all_has (λ (b : Block). list_all (phi_holds f b.number) b.phis) f.blocks (of_blocks f well).phis block there) phi here) in
         let each = and_parts _ _ last.0 in
         let first = and_parts _ _ each.0 in
         record { distinct = first.0; only = first.1; each = each.1; some = not-true (is_empty phi.args) last.1 }
 
-    pub phi_row : (phi : Phi) → Has block.phis phi → (row : NameRow) × (row_of f phi.name ≡ Some row) × (list_all (λ (arg : ℕ × Operand). same_type (type_of arg.1) row.ty) phi.args ≡ true)
+    pub phi_row : (phi : Phi) → Has block.phis phi
+        → (row : NameRow) × (row_of f phi.name ≡ Some row) × (list_all (λ (arg : ℕ × Operand). same_type (type_of arg.1) row.ty) phi.args ≡ true)
     phi_row phi here = by (row_of f phi.name) refl (all_has (phi_fits f) block.phis (and_parts _ _ (and_parts _ _ fits).0).0 phi here) where
-      by : (o : Option NameRow) → row_of f phi.name ≡ o → option_map_or (λ (row : NameRow). list_all (λ (arg : ℕ × Operand). same_type (type_of arg.1) row.ty) phi.args) o false ≡ true
+      by : (o : Option NameRow) → row_of f phi.name ≡ o
+          → option_map_or (λ (row : NameRow). list_all (λ (arg : ℕ × Operand). same_type (type_of arg.1) row.ty) phi.args) o false ≡ true
           → (row : NameRow) × (row_of f phi.name ≡ Some row) × (list_all (λ (arg : ℕ × Operand). same_type (type_of arg.1) row.ty) phi.args ≡ true)
       by None found h = absurd (false≢true h)
       by (Some row) found h = (row, found, h)
 
     pub stmt_row : (stmt : Stmt) → Has block.stmts stmt → (row : NameRow) × (row_of f stmt.name ≡ Some row) × (rhs_fits row.ty stmt.rhs ≡ true)
     stmt_row stmt here = by (row_of f stmt.name) refl (all_has (stmt_fits f) block.stmts (and_parts _ _ (and_parts _ _ fits).0).1 stmt here) where
-      by : (o : Option NameRow) → row_of f stmt.name ≡ o → option_map_or (λ (row : NameRow). rhs_fits row.ty stmt.rhs) o false ≡ true → (row : NameRow) × (row_of f stmt.name ≡ Some row) × (rhs_fits row.ty stmt.rhs ≡ true)
+      by : (o : Option NameRow) → row_of f stmt.name ≡ o → option_map_or (λ (row : NameRow). rhs_fits row.ty stmt.rhs) o false ≡ true
+          → (row : NameRow) × (row_of f stmt.name ≡ Some row) × (rhs_fits row.ty stmt.rhs ≡ true)
       by None found h = absurd (false≢true h)
       by (Some row) found h = (row, found, h)
 
@@ -91,9 +96,11 @@ pub each_operand_holds : (f : Function) → IsWellFormed f → (a : Operand) →
 each_operand_holds f well a there = all_has (operand_holds f) (operands_of f) (and_parts _ _ well.operands).0 a there
 
 -- an operand that holds and is a name has a row, with its type
-pub operand_row : (f : Function) (x : ℕ) (t : Ty) → operand_holds f (operands.Name x t) ≡ true → (row : NameRow) × (row_of f x ≡ Some row) × (row.ty ≡ t)
+pub operand_row : (f : Function) (x : ℕ) (t : Ty) → operand_holds f (operands.Name x t) ≡ true
+    → (row : NameRow) × (row_of f x ≡ Some row) × (row.ty ≡ t)
 operand_row f x t holds = by (row_of f x) refl holds where
-  by : (o : Option NameRow) → row_of f x ≡ o → option_map_or (λ (row : NameRow). same_type row.ty t) o false ≡ true → (row : NameRow) × (row_of f x ≡ Some row) × (row.ty ≡ t)
+  by : (o : Option NameRow) → row_of f x ≡ o → option_map_or (λ (row : NameRow). same_type row.ty t) o false ≡ true
+      → (row : NameRow) × (row_of f x ≡ Some row) × (row.ty ≡ t)
   by None found h = absurd (false≢true h)
   by (Some row) found h = (row, found, same_type_is row.ty t h)
 
@@ -102,6 +109,8 @@ unfolding assigned
 assigned_row f well x there =
     let block = from_flat assigned_in f.blocks x there in
     elim (has_either (map phi_name block.0.phis) (map stmt_name block.0.stmts) x block.2) [
-      | inl h ↦ let phi = from_map phi_name block.0.phis x h in let row = phi_row f block.0 block.1 well phi.0 phi.1 in (row.0, ap (row_of f) (sym phi.2) ∙ row.1)
-      | inr h ↦ let stmt = from_map stmt_name block.0.stmts x h in let row = stmt_row f block.0 block.1 well stmt.0 stmt.1 in (row.0, ap (row_of f) (sym stmt.2) ∙ row.1)
+      | inl h ↦ let phi = from_map phi_name block.0.phis x h in let row = phi_row f block.0 block.1 well phi.0 phi.1 in
+          (row.0, ap (row_of f) (sym phi.2) ∙ row.1)
+      | inr h ↦ let stmt = from_map stmt_name block.0.stmts x h in let row = stmt_row f block.0 block.1 well stmt.0 stmt.1 in
+          (row.0, ap (row_of f) (sym stmt.2) ∙ row.1)
     ]

@@ -29,9 +29,8 @@ use Rattle.gim_making.specs.Names.{is_default}
 use Rattle.gim_making.proofs.Membership.{Has, has_map, from_map, any_has, any_from_has}
 use Rattle.gim_making.proofs.PartLemmas.{same_text_is}
 use Rattle.gim_round_trip.proofs.tree.FunctionParts.{Part, parameter, local, head, jump, assigns, reads, parts_of, PartIs, part_is, local_there, name_there, operand_there}
-use Rattle.gim_round_trip.proofs.tree.KnownNames.{declared_as}
 use Rattle.gim_round_trip.proofs.tree.Occurrences.{Saying, a_local, an_assigned, an_operand, a_name, told, said, occurrences_say}
-use Rattle.gim_round_trip.proofs.tree.Rows.{name_facts, row_found, assigned_is_not_initial, used_is_assigned, local_row, bare_row}
+use Rattle.gim_round_trip.proofs.tree.Rows.{name_facts, row_found, assigned_is_not_initial, used_is_assigned, local_row, bare_row, declared_as}
 use Rattle.gim_round_trip.proofs.tree.SmallNumbers.{numbers_small, jumps_small}
 use Rattle.gim_round_trip.proofs.tree.WellFormedParts.{each_operand_holds, operand_row, assigned_row}
 use Rattle.gim_round_trip.proofs.tree.Writes.{WritesWell, NamesBlock}
@@ -64,17 +63,21 @@ pub record IsNameOf (source : List ℕ) (f : Function) (occurrence : Occurrence)
 
 -- ---- by what an occurrence says
 
-assigned_said : (source text : List ℕ) (o : Occurrence) → said source o ≡ an_assigned text → (at : Span) × (name_at source o ≡ Some at) × (text_of source at ≡ text) × (is_default o ≡ false)
+assigned_said : (source text : List ℕ) (o : Occurrence) → said source o ≡ an_assigned text
+    → (at : Span) × (name_at source o ≡ Some at) × (text_of source at ≡ text) × (is_default o ≡ false)
 assigned_said source text (Assigned at) e = (at, refl, cc, refl)
 assigned_said source text o e = absurd cc
 
-operand_said : (source text : List ℕ) (mark : Bool) (o : Occurrence) → said source o ≡ an_operand (a_name text mark) → (at : Span) × (name_at source o ≡ Some at) × (text_of source at ≡ text) × (is_default o ≡ mark)
+operand_said : (source text : List ℕ) (mark : Bool) (o : Occurrence) → said source o ≡ an_operand (a_name text mark)
+    → (at : Span) × (name_at source o ≡ Some at) × (text_of source at ≡ text) × (is_default o ≡ mark)
 operand_said source text mark (Used at) e = (at, refl, cc, cc)
 operand_said source text mark (Default at) e = (at, refl, cc, cc)
 operand_said source text mark o e = absurd cc
 
-local_said : (source text : List ℕ) (o : Occurrence) → said source o ≡ a_local text → is_anonymous text ≡ true → (at : Span) × (name_at source o ≡ Some at) × (text_of source at ≡ text) × (is_default o ≡ false)
-local_said source text (Local at) e bare = let same : text_of source at ≡ text = cc in (at, ap (λ b. cond b (Some at) None) (ap is_anonymous same ∙ bare), same, refl)
+local_said : (source text : List ℕ) (o : Occurrence) → said source o ≡ a_local text → is_anonymous text ≡ true
+    → (at : Span) × (name_at source o ≡ Some at) × (text_of source at ≡ text) × (is_default o ≡ false)
+local_said source text (Local at) e bare = let same : text_of source at ≡ text = cc in
+    (at, ap (λ b. cond b (Some at) None) (ap is_anonymous same ∙ bare), same, refl)
 local_said source text o e bare = absurd cc
 
 anonymous_at : (b : Bool) (at place : Span) → cond b (Some at) None ≡ Some place → (b ≡ true) × (at ≡ place)
@@ -96,7 +99,8 @@ module _ (source : List ℕ) (tree : FunctionText) (f : Function) (w : WritesWel
       }
 
   -- an operand that is a name, with its row
-  used_here : (at : Span) (x : ℕ) (row : NameRow) (a : Operand) → is_name x a ≡ true → Has (operands_of f) a → row_of f x ≡ Some row → text_of source at ≡ assigned_text f x → is_initial f x ≡ false → OccurrenceIs source f (Used at)
+  used_here : (at : Span) (x : ℕ) (row : NameRow) (a : Operand) → is_name x a ≡ true → Has (operands_of f) a → row_of f x ≡ Some row
+      → text_of source at ≡ assigned_text f x → is_initial f x ≡ false → OccurrenceIs source f (Used at)
   used_here at x row a names there found text plain =
       let facts = name_facts f x row w.well w.within found in
       let initial : row.initial ≡ false = sym facts.initial ∙ plain in
@@ -104,7 +108,8 @@ module _ (source : List ℕ) (tree : FunctionText) (f : Function) (w : WritesWel
       (row, name_here at x row found text, initial, used_is_assigned f row facts.stands initial used)
 
   told_is : (o : Occurrence) (part : Part) → PartIs f part → told f part ≡ said source o → OccurrenceIs source f o
-  told_is (Parameter at) (parameter decl) is e = let same : decl.ident ≡ text_of source at = cc in subst (Has (map ident_of f.params)) same (has_map ident_of f.params decl is)
+  told_is (Parameter at) (parameter decl) is e = let same : decl.ident ≡ text_of source at = cc in
+      subst (Has (map ident_of f.params)) same (has_map ident_of f.params decl is)
   told_is (Local at) (local decl) is e = (decl, is, cc)
   told_is (Block at) (head n) is e = (n, numbers_small f w.within n is, cc)
   told_is (Jump at) (jump n) is e = (n, jumps_small f w.within w.well n is, cc)
@@ -127,7 +132,8 @@ module _ (source : List ℕ) (tree : FunctionText) (f : Function) (w : WritesWel
 
   pub occurrence_is : (o : Occurrence) → Has (occurrences_of tree) o → OccurrenceIs source f o
   occurrence_is o there =
-      let part = from_map (told f) (parts_of f) (said source o) (subst (λ l. Has l (said source o)) (occurrences_say source f tree w.writes) (has_map (said source) (occurrences_of tree) o there)) in
+      let part = from_map (told f) (parts_of f) (said source o) (subst (λ l. Has l (said source o)) (occurrences_say source f tree w.writes)
+      (has_map (said source) (occurrences_of tree) o there)) in
       told_is o part.0 (part_is f part.0 part.1) part.2
 
   -- the name that stands where a name occurs
@@ -137,23 +143,38 @@ module _ (source : List ℕ) (tree : FunctionText) (f : Function) (w : WritesWel
       let row = local_row f w.well is.0 is.1 (ap is_anonymous (sym is.2) ∙ bare.0) in
       let found = row_found f w.well row.0 row.1 in
       let facts = name_facts f row.0.version row.0 w.well w.within found in
-      let text : text_of source at ≡ assigned_text f row.0.version = ap (text_of source) (sym bare.1) ∙ is.2 ∙ sym row.3 ∙ ap (λ base. base ++ 95 ∷ decimal row.0.version) (sym row.2) ∙ sym facts.text in
+      let text : text_of source at ≡ assigned_text f row.0.version = ap (text_of source) (sym bare.1) ∙ is.2 ∙ sym row.3
+      ∙ ap (λ base. base ++ 95 ∷ decimal row.0.version) (sym row.2) ∙ sym facts.text in
       (row.0, record { place = e; name = name_here at row.0.version row.0 found text; mark = sym (bare_row f row.0 facts.base row.2).0 })
-  name_of (Assigned place) at is e = let here : place ≡ at = cc in (is.0, record { place = e; name = subst (λ p. IsNameAt source f p is.0) here is.1; mark = sym is.2 })
-  name_of (Used place) at is e = let here : place ≡ at = cc in (is.0, record { place = e; name = subst (λ p. IsNameAt source f p is.0) here is.1; mark = sym is.2 })
-  name_of (Default place) at is e = let here : place ≡ at = cc in (is.0, record { place = e; name = subst (λ p. IsNameAt source f p is.0) here is.1; mark = sym is.2 })
+  name_of (Assigned place) at is e = let here : place ≡ at = cc in
+      (is.0, record { place = e; name = subst (λ p. IsNameAt source f p is.0) here is.1; mark = sym is.2 })
+  name_of (Used place) at is e = let here : place ≡ at = cc in
+      (is.0, record { place = e; name = subst (λ p. IsNameAt source f p is.0) here is.1; mark = sym is.2 })
+  name_of (Default place) at is e = let here : place ≡ at = cc in
+      (is.0, record { place = e; name = subst (λ p. IsNameAt source f p is.0) here is.1; mark = sym is.2 })
   name_of o at is e = absurd cc
 
   -- ---- each name occurs
 
   part_occurs : (part : Part) → Has (parts_of f) part → (o : Occurrence) × Has (occurrences_of tree) o × (said source o ≡ told f part)
-  part_occurs part there = from_map (said source) (occurrences_of tree) (told f part) (subst (λ l. Has l (told f part)) (sym (occurrences_say source f tree w.writes)) (has_map (told f) (parts_of f) part there))
+  part_occurs part there = from_map (said source) (occurrences_of tree) (told f part)
+      (subst (λ l. Has l (told f part)) (sym (occurrences_say source f tree w.writes)) (has_map (told f) (parts_of f) part there))
 
   abbrev pub Occurs : NameRow → Type 0
   Occurs row = (o : Occurrence) × Has (occurrences_of tree) o × (at : Span) × IsNameOf source f o at row
 
-  occurs : (row : NameRow) (o : Occurrence) → Has f.names row → Has (occurrences_of tree) o → (at : Span) × (name_at source o ≡ Some at) × (text_of source at ≡ assigned_text f row.version) × (is_default o ≡ row.initial) → Occurs row
-  occurs row o named there found = (o, there, found.0, record { place = found.1; name = name_here found.0 row.version row (row_found f w.well row named) found.2; mark = found.3 })
+  occurs : (row : NameRow) (o : Occurrence) → Has f.names row → Has (occurrences_of tree) o
+      → (at : Span) × (name_at source o ≡ Some at) × (text_of source at ≡ assigned_text f row.version) × (is_default o ≡ row.initial) → Occurs row
+  occurs row o named there found = (
+    o,
+    there,
+    found.0,
+    record {
+      place = found.1;
+      name = name_here found.0 row.version row (row_found f w.well row named) found.2;
+      mark = found.3;
+    },
+  )
 
   assigned_occurs : (row : NameRow) → Has f.names row → row.initial ≡ false → is_assigned f row.version ≡ true → Occurs row
   assigned_occurs row named plain a =
@@ -170,7 +191,8 @@ module _ (source : List ℕ) (tree : FunctionText) (f : Function) (w : WritesWel
         let o = part_occurs (reads (operands.Name x t)) (operand_there f (operands.Name x t) there) in
         let s = operand_said source (assigned_text f x) (is_initial f x) o.0 o.2 in
         let version : x ≡ row.version = eqb-true x row.version same in
-        let initial : is_initial f row.version ≡ row.initial = (name_facts f row.version row w.well w.within (row_found f w.well row named)).initial in
+        let initial : is_initial f row.version ≡ row.initial = (name_facts f row.version row w.well w.within
+        (row_found f w.well row named)).initial in
         occurs row o.0 named o.1 (s.0, s.1, s.2 ∙ ap (assigned_text f) version, s.3 ∙ ap (is_initial f) version ∙ initial)
 
   local_occurs : (row : NameRow) → Has f.names row → row.base ≡ [] → Occurs row
@@ -180,12 +202,14 @@ module _ (source : List ℕ) (tree : FunctionText) (f : Function) (w : WritesWel
       let decl = declared_as (anonymous row.version) row.ty f.decls bare.1 in
       let o = part_occurs (local decl.0) (local_there f decl.0 decl.1) in
       let number : is_number_text (decimal row.version) ≡ true = decimal_is_number_text row.version (omega (arith, facts.small)) in
-      let s = local_said source decl.0.ident o.0 o.2 (ap is_anonymous decl.2 ∙ and_from (95 == 95) (is_number_text (decimal row.version)) (eq-eqb 95 95 refl) number) in
+      let s = local_said source decl.0.ident o.0 o.2 (ap is_anonymous decl.2
+      ∙ and_from (95 == 95) (is_number_text (decimal row.version)) (eq-eqb 95 95 refl) number) in
       occurs row o.0 named o.1 (s.0, s.1, s.2 ∙ decl.2 ∙ ap (λ base. base ++ 95 ∷ decimal row.version) (sym empty) ∙ sym facts.text, s.3 ∙ sym bare.0)
 
   pub row_occurs : (row : NameRow) → Has f.names row → Occurs row
   row_occurs row named = by row.initial refl (name_facts f row.version row w.well w.within (row_found f w.well row named)).stands where
-    by : (b : Bool) → row.initial ≡ b → cond b (not (is_assigned f row.version) && is_used f row.version) (is_assigned f row.version || (same_text row.base [] && not (is_used f row.version))) ≡ true → Occurs row
+    by : (b : Bool) → row.initial ≡ b
+        → cond b (not (is_assigned f row.version) && is_used f row.version) (is_assigned f row.version || (same_text row.base [] && not (is_used f row.version))) ≡ true → Occurs row
     by true is h = used_occurs row named (and_parts (not (is_assigned f row.version)) (is_used f row.version) h).1
     by false is h = elim (or_cases (is_assigned f row.version) (same_text row.base [] && not (is_used f row.version)) h) [
       | inl a ↦ assigned_occurs row named is a

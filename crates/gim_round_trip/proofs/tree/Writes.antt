@@ -49,7 +49,8 @@ WritesForm source f t (Copy a) (sides.Copy b) = WritesOperand source f a b
 WritesForm source f t (Unary code a) (sides.Op op (x ∷ [])) = (code ≡ op) × WritesOperand source f a x
 WritesForm source f t (Cast to a) (sides.Op op (x ∷ [])) = (op ≡ codes.Convert) × (to ≡ t) × WritesOperand source f a x
 WritesForm source f t (Binary code a b) (sides.Op op (x ∷ y ∷ [])) = (code ≡ op) × WritesOperand source f a x × WritesOperand source f b y
-WritesForm source f t (Choice a b c) (sides.Op op (x ∷ y ∷ z ∷ [])) = (op ≡ codes.Cond) × WritesOperand source f a x × WritesOperand source f b y × WritesOperand source f c z
+WritesForm source f t (Choice a b c) (sides.Op op (x ∷ y ∷ z ∷ [])) =
+    (op ≡ codes.Cond) × WritesOperand source f a x × WritesOperand source f b y × WritesOperand source f c z
 WritesForm source f t form rhs = ⊥
 
 -- a `__BBn` names the block of this number
@@ -65,7 +66,8 @@ WritesPhi source f (items.Stmt name right) phi = ⊥
 
 abbrev pub WritesStmt : List ℕ → Function → ItemText → Stmt → Type 0
 WritesStmt source f (items.Phi name args) stmt = ⊥
-WritesStmt source f (items.Stmt name right) stmt = (text_of source name ≡ assigned_text f stmt.name) × WritesForm source f (type_of_name f stmt.name) right.form stmt.rhs
+WritesStmt source f (items.Stmt name right) stmt = (text_of source name ≡ assigned_text f stmt.name) × WritesForm source f
+    (type_of_name f stmt.name) right.form stmt.rhs
 
 abbrev pub WritesEnd : List ℕ → Function → Option EndText → End → Type 0
 WritesEnd source f (Some (Goto to)) (ends.Goto number) = NamesBlock source to number
@@ -100,8 +102,10 @@ pub record WritesWell (source : List ℕ) (tree : FunctionText) (f : Function) :
   pub well : IsWellFormed f
   pub within : IsWithinLimits f
 
-pub all_write_well : (source : List ℕ) (trees : List FunctionText) (fs : List Function) → AllZip (Writes source) trees fs → AllByRecursion IsWellFormed fs → AllByRecursion IsWithinLimits fs → AllZip (WritesWell source) trees fs
+pub all_write_well : (source : List ℕ) (trees : List FunctionText) (fs : List Function) → AllZip (Writes source) trees fs
+    → AllByRecursion IsWellFormed fs → AllByRecursion IsWithinLimits fs → AllZip (WritesWell source) trees fs
 all_write_well source [] [] written well limits = tt
 all_write_well source [] (f ∷ fs) written well limits = absurd written
 all_write_well source (tree ∷ trees) [] written well limits = absurd written
-all_write_well source (tree ∷ trees) (f ∷ fs) written well limits = (record { writes = written.0; well = well.0; within = limits.0 }, all_write_well source trees fs written.1 well.1 limits.1)
+all_write_well source (tree ∷ trees) (f ∷ fs) written well limits =
+    (record { writes = written.0; well = well.0; within = limits.0 }, all_write_well source trees fs written.1 well.1 limits.1)
