@@ -111,7 +111,7 @@ together need needs before mid after given more first rest = record {
   give = (
     (give_map (Rose before.faults mid.faults) (Rose before.faults after.faults) before.holds (need ∷ []) (given ∷ []) (λ rose. rises_first rose rest.later) first.give).0,
     subst (λ told. Give (Rose before.faults after.faults) told needs more) first.holds
-      (give_map (Rose mid.faults after.faults) (Rose before.faults after.faults) mid.holds needs more (λ rose. rises_second first.later rose) rest.give),
+        (give_map (Rose mid.faults after.faults) (Rose before.faults after.faults) mid.holds needs more (λ rose. rises_second first.later rose) rest.give),
   );
   asked = rest.asked ∙ ap (λ asked. followed_by asked (map (λ (need : Need). need.name) (take (length more) needs))) first.asked
       ∙ followed_by-append before.asked (need.name ∷ []) (map (λ (need : Need). need.name) (take (length more) needs));

@@ -80,4 +80,5 @@ settings_in allowed words = if_suited allowed (settings_of (option_words words))
 
 -- the number of an option, or another where it isn't set
 abbrev pub number_or : Flag → ℕ → List Setting → ℕ
-number_or flag other settings = option_map_or (λ (setting : Setting). setting.number) (first_where (λ (setting : Setting). is_same setting.flag flag) settings) other
+number_or flag other settings =
+    option_map_or (λ (setting : Setting). setting.number) (first_where (λ (setting : Setting). is_same setting.flag flag) settings) other

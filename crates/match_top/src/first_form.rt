@@ -15,11 +15,7 @@ use pm_io::Inputs;
 use std::alloc::Global;
 
 /// The function of the file of this name.
-pub fn read_function<I: Inputs>(
-    alloc: Global,
-    inputs: &mut I,
-    name: &str,
-) -> Result<Function, Stop>
+pub fn read_function<I: Inputs>(alloc: Global, inputs: &mut I, name: &str) -> Result<Function, Stop>
     ensures staged { Staged (record { kind = FirstForm; name = name.now }) (I.state inputs.old) (I.state inputs.new) result }
     ensures typed { IfOk result IsTyped }
     ensures rise { IfOk result (λ f. IsTrue (names_rise f)) }

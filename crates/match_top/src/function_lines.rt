@@ -30,7 +30,13 @@ pub fn at_fault(alloc: Global, source: &[u8], fault: &GimpleFault) -> Stop
     }
     let place = place_in(source, fault.at);
     let token = named_token(source, fault);
-    faulty(alloc, Kind::Functions, Some(place), kind_text(fault.kind), token)
+    faulty(
+        alloc,
+        Kind::Functions,
+        Some(place),
+        kind_text(fault.kind),
+        token,
+    )
 }
 
 /// The line and the column of a byte.

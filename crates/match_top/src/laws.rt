@@ -18,7 +18,8 @@ ghost use Rattle.match_top.specs.declared.status.Status.TheVariants.{Done};
 
 /// What is answered to held files is determined, but that memory may run out.
 pub fn one_answer()
-    ensures { (needs : List Need) (work : Work needs) (held : List ℕ → Option (List ℕ)) (a b : Answer) → AnswersHeld needs work held a → AnswersHeld needs work held b →
+    ensures { (needs : List Need) (work : Work needs) (held : List ℕ → Option (List ℕ)) (a b : Answer) →
+        AnswersHeld needs work held a → AnswersHeld needs work held b →
         (a ≡ b) ⊎ ((a ≡ Err Memory) ⊎ (b ≡ Err Memory)) }
 {}
 
@@ -29,6 +30,7 @@ pub fn printed_functions_are_accepted()
 
 /// What `check` prints is accepted, where it is no longer than a file may be, and printed again as it is.
 pub fn what_check_prints_it_prints_again()
-    ensures { (held : List ℕ → Option (List ℕ)) (command again : Check) (a b : Answer) → AnswersHeld (check_needs command) checked held a → status_of a ≡ Done →
-        held again.functions ≡ Some (out_of a) → length (out_of a) ≤ limit_of Functions → AnswersHeld (check_needs again) checked held b → (b ≡ a) ⊎ (b ≡ Err Memory) }
+    ensures { (held : List ℕ → Option (List ℕ)) (command again : Check) (a b : Answer) →
+        AnswersHeld (check_needs command) checked held a → status_of a ≡ Done → held again.functions ≡ Some (out_of a) →
+        length (out_of a) ≤ limit_of Functions → AnswersHeld (check_needs again) checked held b → (b ≡ a) ⊎ (b ≡ Err Memory) }
 {}

@@ -48,7 +48,8 @@ pub fn run<I: Inputs, O: Sink, E: Sink>(
     ensures refused { result ≡ code (Refused NoCommand) → command_of (map string_bytes words.now) ≡ None }
 
     // A write failed only where a sink's count rose.
-    ensures failed { result ≡ code WriteFailed → Rose (O.state out.old).faults (O.state out.new).faults ⊎ Rose (E.state report.old).faults (E.state report.new).faults }
+    ensures failed { result ≡ code WriteFailed →
+        Rose (O.state out.old).faults (O.state out.new).faults ⊎ Rose (E.state report.old).faults (E.state report.new).faults }
 
     // With a refusal `out` isn't touched, and with want of memory `report` isn't either.
     ensures silent { IsSilent result → out.new ≡ out.old }

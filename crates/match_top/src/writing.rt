@@ -8,11 +8,7 @@ use crate::status::Status;
 use pm_io::{Sink, write_all};
 
 /// Writes the answer's text for `out`, and then the one for `report`. Where a write fails nothing more is written.
-pub fn write<O: Sink, E: Sink>(
-    answer: &Result<Output, Stop>,
-    out: &mut O,
-    report: &mut E,
-) -> u8
+pub fn write<O: Sink, E: Sink>(answer: &Result<Output, Stop>, out: &mut O, report: &mut E) -> u8
     ensures writes { Writes answer.now (record { old = O.state out.old; new = O.state out.new })
         (record { old = E.state report.old; new = E.state report.new }) result }
     ensures no_out { out_of answer.now ≡ [] → out.new ≡ out.old }

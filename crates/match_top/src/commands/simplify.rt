@@ -55,11 +55,7 @@ pub fn spelled(alloc: Global, words: &[String]) -> Result<Option<Simplify>, OutO
 }
 
 /// Rewrites the function of one file by the rows of the other.
-pub fn answer<I: Inputs>(
-    alloc: Global,
-    inputs: &mut I,
-    command: &Simplify,
-) -> Result<Output, Stop>
+pub fn answer<I: Inputs>(alloc: Global, inputs: &mut I, command: &Simplify) -> Result<Output, Stop>
     ensures { Answered (simplify_needs command.now) simplified (I.state inputs.old) (I.state inputs.new) result }
 {
     let patterns = read_patterns(alloc, inputs, command.patterns.as_str())?;
