@@ -1,12 +1,11 @@
-pub mod AnswerLemmas
-pub mod CommandLemmas
-pub mod FaultLemmas
-pub mod FileLemmas
 pub mod FirstFormLemmas
+pub mod FunctionLemmas
 pub mod GivenLemmas
-pub mod HeldLemmas
 pub mod NameLemmas
 pub mod OneAnswer
+pub mod OptionLemmas
+pub mod ProgramLemmas
 pub mod RowLemmas
+pub mod RunLemmas
+pub mod SaysLemmas
 pub mod StatusLemmas
-pub mod ValueLemmas

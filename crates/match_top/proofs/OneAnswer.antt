@@ -1,23 +1,34 @@
--- The answer of a command on one GIMPLE file is one, unless memory runs out; and what `check` prints, it prints again.
-use Rattle.std.proofs.Common.{◌≡◌, ◌⊎◌, ℕ, ◌≤◌, Bool, true, false, List, [], ◌∷◌, ◌++◌, length, codes, Option, Some, None, refl, sym, ap, subst, ◌∙◌, inl, inr, arith}
-use Rattle.std.specs.Prelude.{nat_le}
+-- The answer to held files is one, unless memory runs out; and what `check` prints, it prints again.
+use Rattle.std.proofs.Common.{◌≡◌, ◌⊎◌, ℕ, ◌≤◌, ◌<◌, List, [], ◌∷◌, ◌++◌, length, Option, Some, None, IsSomeAnd, Result, Ok, Err, refl, sym, ap, subst, ◌∙◌, inl, inr, arith}
 use Rattle.std.specs.List.{AllByRecursion}
-use Rattle.std.proofs.lemmas.Bool.{le-leb}
 use Rattle.gim_ast.specs.declared.function.Function.{Function}
 use Rattle.gim_printer.specs.Printing.{text}
 use Rattle.gim_ast.specs.Readable.{IsValid, IsFirstUnreadable}
 use Rattle.gim_ast.proofs.FirstUnreadable.{first_is_one, valid_has_no_first}
+use Rattle.first_patterns.specs.declared.row.Row.{Row}
+use Rattle.first_patterns.specs.FirstForm.{SpellsFile}
+use Rattle.first_patterns.proofs.TokenLemmas.{some_is}
+use Rattle.first_patterns.proofs.RowsLemmas.{spelled_is_read}
+use Rattle.first_gimple.proofs.Judging.{one_for_text}
 use Rattle.gim_reader.specs.Files.{IsFile}
 use Rattle.gim_reader.proofs.OneAnswer.{one_list, no_fault, one_fault}
 use Rattle.gim_round_trip.specs.ReadBack.{MayBeReadBack}
 use Rattle.gim_round_trip.proofs.ReadFiles.{read_may_be_printed}
 use Rattle.gim_round_trip.proofs.RoundTrip.{read_back}
-use Rattle.match_top.specs.Words.{Command, Check}
-use Rattle.match_top.specs.Answers.{Answer, Given, Bytes, Missing, TooLong, Unread, Unknown, Stage, Reached, Ended, OrMemory, refusal, no_memory, functions_limit}
-use Rattle.match_top.specs.Commands.{checked}
-use Rattle.match_top.specs.GimpleFiles.{IsAccepted, IsFirstInvalid, IsRefusedWith, by_fault, by_unreadable, fault_text, unreadable_text}
-use Rattle.match_top.specs.Held.{given_of, IsHeldAnswer}
-use Rattle.match_top.specs.Program.{IsRefusedFile, ReadsFunctions, AfterFile, WorksOn}
+use Rattle.match_top.specs.Answer.{Answer, status_of, out_of, refusal, OrMemory, IsOrMemory}
+use Rattle.match_top.specs.Check.{check_needs, checked}
+use Rattle.match_top.specs.Functions.{IsAccepted, IsFirstInvalid, IsRefusedWith, by_fault, by_unreadable, gimple_fault_text, unreadable_text}
+use Rattle.match_top.specs.Given.{Given, Bytes, Missing, TooLong, Unread, NoRoom, Gives, Give, IsRefusal, Judges, ComesTo, GoesOn, Work, Answers, AnswersHeld}
+use Rattle.match_top.specs.Needs as needs
+use Rattle.match_top.specs.Needs.{Need, Value, StandsFor, cause_of, limit_of}
+use Rattle.match_top.specs.declared.answer.Stop.{Stop}
+use Rattle.match_top.specs.declared.answer.Stop.TheVariants.{Memory, Refusal}
+use Rattle.match_top.specs.declared.commands.check.Check.{Check}
+use Rattle.match_top.specs.declared.needs.Kind.{Kind}
+use Rattle.match_top.specs.declared.needs.Kind.TheVariants.{Patterns, FirstForm, Functions}
+use Rattle.match_top.specs.declared.patterns.PatternFile.{PatternFile}
+use Rattle.match_top.specs.declared.status.Status.{Status}
+use Rattle.match_top.specs.declared.status.Status.TheVariants.{Done}
 
 -- ---- refused files
 
@@ -43,7 +54,7 @@ unreadable_once fs f g n k x m j y p q =
     ap (λ (h : Function). unreadable_text h n k x) same ∙ ap (λ b. unreadable_text g b k x) place.0 ∙ ap (λ i. unreadable_text g m i x) place.1 ∙ ap (λ v. unreadable_text g m j v) place.2
 
 refused_once : (source t u : List ℕ) → IsRefusedWith source t → IsRefusedWith source u → t ≡ u
-refused_once source t u (by_fault a of_a is_a) (by_fault b of_b is_b) = is_a ∙ ap (fault_text source) (one_fault source a b of_a of_b) ∙ sym is_b
+refused_once source t u (by_fault a of_a is_a) (by_fault b of_b is_b) = is_a ∙ ap (gimple_fault_text source) (one_fault source a b of_a of_b) ∙ sym is_b
 refused_once source t u (by_fault a of_a is_a) (by_unreadable gs g m j y file invalid is) = absurd (no_fault source gs a file of_a)
 refused_once source t u (by_unreadable fs f n k x file invalid is) (by_fault b of_b is_b) = absurd (no_fault source fs b file of_b)
 refused_once source t u (by_unreadable fs f n k x file invalid is) (by_unreadable gs g m j y file_too invalid_too is_too) =
@@ -56,111 +67,182 @@ accepted_not_refused source t fs accepted (by_unreadable gs g m j y file invalid
     let same : fs ≡ gs = one_list source fs gs accepted.stands file in
     invalid_among gs invalid.before invalid.after g m j y (subst (AllByRecursion IsValid) same accepted.valid) invalid.in_order invalid.unreadable
 
+-- ---- what bytes stand for is one, of each kind
+
+abbrev file_of : List ℕ → List Row → PatternFile
+file_of source rows = record { source = source; rows = rows }
+
+one_value : (kind : Kind) (source : List ℕ) (a b : Value kind) → StandsFor kind source a → StandsFor kind source b → a ≡ b
+one_value Patterns source a b p q =
+    let rows : a.rows ≡ b.rows = some_is a.rows b.rows (sym (spelled_is_read source a.rows p.1) ∙ spelled_is_read source b.rows q.1) in
+    ap (λ (s : List ℕ). file_of s a.rows) (p.0 ∙ sym q.0) ∙ ap (file_of b.source) rows
+one_value FirstForm source a b p q = one_for_text source a b p q
+one_value Functions source a b p q = one_list source a b p.stands q.stands
+
+one_text : (kind : Kind) (source t u : List ℕ) → needs.IsRefusedWith kind source t → needs.IsRefusedWith kind source u → t ≡ u
+one_text Patterns source t u p q = p.1 ∙ sym q.1
+one_text FirstForm source t u p q = p.1 ∙ sym q.1
+one_text Functions source t u p q = refused_once source t u p q
+
+not_both : (kind : Kind) (source t : List ℕ) (a : Value kind) → StandsFor kind source a → needs.IsRefusedWith kind source t → ⊥
+not_both Patterns source t a p q = q.0 a.rows p.1
+not_both FirstForm source t a p q = q.0 a p
+not_both Functions source t a p q = accepted_not_refused source t a p q
+
 -- ---- answers
 
 -- two answers are one, but that memory may have run out
 abbrev pub AreOne : Answer → Answer → Type 0
-AreOne a b = (a ≡ b) ⊎ ((a ≡ no_memory) ⊎ (b ≡ no_memory))
+AreOne a b = (a ≡ b) ⊎ ((a ≡ Err Memory) ⊎ (b ≡ Err Memory))
 
-both : (wanted a b : Answer) → OrMemory wanted a → OrMemory wanted b → AreOne a b
+both : (wanted a b : Answer) → IsOrMemory wanted a → IsOrMemory wanted b → AreOne a b
 both wanted a b (inl p) (inl q) = inl (p ∙ sym q)
 both wanted a b (inr p) q = inr (inl p)
 both wanted a b p (inr q) = inr (inr q)
 
-ended : (source : List ℕ) (x y a b : Answer) → IsRefusedFile source x ⊎ (x ≡ no_memory) → IsRefusedFile source y ⊎ (y ≡ no_memory) → a ≡ x → b ≡ y → AreOne a b
-ended source x y a b (inl p) (inl q) e f = inl (e ∙ p.answered ∙ ap (refusal 4) (refused_once source p.text q.text p.refused q.refused) ∙ sym q.answered ∙ sym f)
-ended source x y a b (inr p) q e f = inr (inl (e ∙ p))
-ended source x y a b p (inr q) e f = inr (inr (f ∙ q))
+both_stopped : (wanted s t : Stop) (a b : Answer) → OrMemory wanted s → OrMemory wanted t → a ≡ Err s → b ≡ Err t → AreOne a b
+both_stopped wanted s t a b (inl p) (inl q) e f = inl (e ∙ ap Err (p ∙ sym q) ∙ sym f)
+both_stopped wanted s t a b (inr p) q e f = inr (inl (e ∙ ap Err p))
+both_stopped wanted s t a b p (inr q) e f = inr (inr (f ∙ ap Err q))
 
-accepted_or_memory : (source : List ℕ) (fs : List Function) (y b : Answer) → IsAccepted source fs → IsRefusedFile source y ⊎ (y ≡ no_memory) → b ≡ y → b ≡ no_memory
-accepted_or_memory source fs y b accepted (inl q) f = absurd (accepted_not_refused source q.text fs accepted q.refused)
-accepted_or_memory source fs y b accepted (inr q) f = f ∙ q
+both_refused : (kind : Kind) (source : List ℕ) (s t : Stop) (a b : Answer) → IsRefusal kind source s ⊎ (s ≡ Memory) → IsRefusal kind source t ⊎ (t ≡ Memory)
+    → a ≡ Err s → b ≡ Err t → AreOne a b
+both_refused kind source s t a b (inl p) (inl q) e f =
+    inl (e ∙ ap Err (p.answered ∙ ap (refusal (cause_of kind)) (one_text kind source p.text q.text p.refused q.refused) ∙ sym q.answered) ∙ sym f)
+both_refused kind source s t a b (inr p) q e f = inr (inl (e ∙ ap Err p))
+both_refused kind source s t a b p (inr q) e f = inr (inr (f ∙ ap Err q))
 
-by_stages : (name : List ℕ) (g : Given) (work : List Function → Answer) (s t : Stage (List Function)) (a b : Answer)
-    → ReadsFunctions name g s → ReadsFunctions name g t → AfterFile work s a → AfterFile work t b → AreOne a b
-by_stages name (Bytes source) work (Reached fs) (Reached gs) a b p q e f =
-    both (work gs) a b (subst (λ hs. OrMemory (work hs) a) (one_list source fs gs p.stands q.stands) e) f
-by_stages name (Bytes source) work (Reached fs) (Ended y) a b p q e f = inr (inr (accepted_or_memory source fs y b p q f))
-by_stages name (Bytes source) work (Ended x) (Reached gs) a b p q e f = inr (inl (accepted_or_memory source gs x a q p e))
-by_stages name (Bytes source) work (Ended x) (Ended y) a b p q e f = ended source x y a b p q e f
-by_stages name TooLong work (Ended x) (Ended y) a b p q e f = both _ a b (subst (OrMemory _) (sym e) p) (subst (OrMemory _) (sym f) q)
-by_stages name Missing work (Ended x) (Ended y) a b p q e f = both _ a b (subst (OrMemory _) (sym e) p) (subst (OrMemory _) (sym f) q)
-by_stages name Unread work (Ended x) (Ended y) a b p q e f = both _ a b (subst (OrMemory _) (sym e) p) (subst (OrMemory _) (sym f) q)
-by_stages name Unknown work (Ended x) t a b p q e f = inr (inl (e ∙ p))
-by_stages name TooLong work (Reached fs) t a b p q e f = absurd p
-by_stages name Missing work (Reached fs) t a b p q e f = absurd p
-by_stages name Unread work (Reached fs) t a b p q e f = absurd p
-by_stages name Unknown work (Reached fs) t a b p q e f = absurd p
-by_stages name TooLong work (Ended x) (Reached gs) a b p q e f = absurd q
-by_stages name Missing work (Ended x) (Reached gs) a b p q e f = absurd q
-by_stages name Unread work (Ended x) (Reached gs) a b p q e f = absurd q
+stopped_by_memory : (kind : Kind) (source : List ℕ) (value : Value kind) (t : Stop) (b : Answer) → StandsFor kind source value → IsRefusal kind source t ⊎ (t ≡ Memory) → b ≡ Err t → b ≡ Err Memory
+stopped_by_memory kind source value t b stands (inl q) f = absurd (not_both kind source q.text value stands q.refused)
+stopped_by_memory kind source value t b stands (inr q) f = f ∙ ap Err q
 
-pub one_answer : (name : List ℕ) (g : Given) (work : List Function → Answer) (a b : Answer) → WorksOn name g work a → WorksOn name g work b → AreOne a b
-one_answer name g work a b p q = by_stages name g work p.stage q.stage a b p.reads q.reads p.after q.after
+-- what a held file gives is one, unless there was no memory for it
+abbrev SameGiven : Given → Given → Type 0
+SameGiven g h = (g ≡ h) ⊎ ((g ≡ NoRoom) ⊎ (h ≡ NoRoom))
+
+too_long : (limit : ℕ) (holds : Option (List ℕ)) (bytes : List ℕ) → length bytes ≤ limit → holds ≡ Some bytes → IsSomeAnd holds (λ file. limit < length file) → ⊥
+too_long limit None bytes within e long = long
+too_long limit (Some file) bytes within e long = let same : file ≡ bytes = cc in omega (arith, within, subst (λ (f : List ℕ). limit < length f) same long)
+
+none_long : (limit : ℕ) (holds : Option (List ℕ)) → holds ≡ None → IsSomeAnd holds (λ file. limit < length file) → ⊥
+none_long limit None e long = long
+none_long limit (Some file) e long = absurd cc
+
+same_given : (held : List ℕ → Option (List ℕ)) (need : Need) (g h : Given) → Gives ⊥ (Some held) need g → Gives ⊥ (Some held) need h → SameGiven g h
+same_given held need (Bytes a) (Bytes b) p q = let same : Some a ≡ Some b = sym p.1 ∙ q.1 in let bytes : a ≡ b = cc in inl (ap Bytes bytes)
+same_given held need (Bytes a) Missing p q = let same : Some a ≡ None = sym p.1 ∙ q in absurd cc
+same_given held need (Bytes a) TooLong p q = absurd (too_long (limit_of need.kind) (held need.name) a p.0 p.1 q)
+same_given held need Missing (Bytes b) p q = let same : Some b ≡ None = sym q.1 ∙ p in absurd cc
+same_given held need Missing Missing p q = inl refl
+same_given held need Missing TooLong p q = absurd (none_long (limit_of need.kind) (held need.name) p q)
+same_given held need TooLong (Bytes b) p q = absurd (too_long (limit_of need.kind) (held need.name) b q.0 q.1 p)
+same_given held need TooLong Missing p q = absurd (none_long (limit_of need.kind) (held need.name) q p)
+same_given held need TooLong TooLong p q = inl refl
+same_given held need NoRoom h p q = inr (inl refl)
+same_given held need g NoRoom p q = inr (inr refl)
+same_given held need Unread h p q = absurd p
+same_given held need g Unread p q = absurd q
+
+no_room : (need : Need) (stage : Result (Value need.kind) Stop) (next : Value need.kind → Type 0) (more : List Given) (a : Answer) → ComesTo need NoRoom stage → GoesOn stage next more a → a ≡ Err Memory
+no_room need (Ok value) next more a comes goes = absurd comes
+no_room need (Err stop) next more a comes goes = goes.1 ∙ ap Err comes
+
+module _ (need : Need) (Next : Value need.kind → List Given → Answer → Type 0) where
+  -- the same file was begun, and what follows gives one answer
+  by_stages : (g : Given) (s t : Result (Value need.kind) Stop) (more others : List Given) (a b : Answer) → ComesTo need g s → ComesTo need g t
+      → GoesOn s (λ value. Next value more a) more a → GoesOn t (λ value. Next value others b) others b
+      → ((value : Value need.kind) → Next value more a → Next value others b → AreOne a b) → AreOne a b
+  by_stages (Bytes source) (Ok x) (Ok y) more others a b p q e f next = next y (subst (λ z. Next z more a) (one_value need.kind source x y p q) e) f
+  by_stages (Bytes source) (Ok x) (Err t) more others a b p q e f next = inr (inr (stopped_by_memory need.kind source x t b p q f.1))
+  by_stages (Bytes source) (Err s) (Ok y) more others a b p q e f next = inr (inl (stopped_by_memory need.kind source y s a q p e.1))
+  by_stages (Bytes source) (Err s) (Err t) more others a b p q e f next = both_refused need.kind source s t a b p q e.1 f.1
+  by_stages Missing (Err s) (Err t) more others a b p q e f next = both_stopped _ s t a b p q e.1 f.1
+  by_stages TooLong (Err s) (Err t) more others a b p q e f next = both_stopped _ s t a b p q e.1 f.1
+  by_stages Unread (Err s) (Err t) more others a b p q e f next = both_stopped _ s t a b p q e.1 f.1
+  by_stages NoRoom (Err s) t more others a b p q e f next = inr (inl (e.1 ∙ ap Err p))
+  by_stages Missing (Ok x) t more others a b p q e f next = absurd p
+  by_stages TooLong (Ok x) t more others a b p q e f next = absurd p
+  by_stages Unread (Ok x) t more others a b p q e f next = absurd p
+  by_stages NoRoom (Ok x) t more others a b p q e f next = absurd p
+  by_stages Missing (Err s) (Ok y) more others a b p q e f next = absurd q
+  by_stages TooLong (Err s) (Ok y) more others a b p q e f next = absurd q
+  by_stages Unread (Err s) (Ok y) more others a b p q e f next = absurd q
+
+  by_given : (g h : Given) (s t : Result (Value need.kind) Stop) (more others : List Given) (a b : Answer) → SameGiven g h → ComesTo need g s → ComesTo need h t
+      → GoesOn s (λ value. Next value more a) more a → GoesOn t (λ value. Next value others b) others b
+      → ((value : Value need.kind) → Next value more a → Next value others b → AreOne a b) → AreOne a b
+  by_given g h s t more others a b (inl same) p q e f next = by_stages h s t more others a b (subst (λ g. ComesTo need g s) same p) q e f next
+  by_given g h s t more others a b (inr (inl none)) p q e f next = inr (inl (no_room need s (λ value. Next value more a) more a (subst (λ g. ComesTo need g s) none p) e))
+  by_given g h s t more others a b (inr (inr none)) p q e f next = inr (inr (no_room need t (λ value. Next value others b) others b (subst (λ g. ComesTo need g t) none q) f))
+
+one : (held : List ℕ → Option (List ℕ)) (needs : List Need) (work : Work needs) (given others : List Given) (a b : Answer) → Give ⊥ (Some held) needs given → Give ⊥ (Some held) needs others
+    → Answers needs work given a → Answers needs work others b → AreOne a b
+one held [] work given others a b p q e f = both work a b e.1 f.1
+one held (need ∷ needs) work [] others a b p q e f = inr (inl e)
+one held (need ∷ needs) work (g ∷ given) [] a b p q e f = inr (inr f)
+one held (need ∷ needs) work (g ∷ given) (h ∷ others) a b p q e f =
+    by_given need (λ value more answer. Answers needs (work value) more answer) g h e.stage f.stage given others a b (same_given held need g h p.0 q.0) e.comes f.comes e.goes_on f.goes_on
+    (λ value x y. one held needs (work value) given others a b p.1 q.1 x y)
+
+pub one_answer : (needs : List Need) (work : Work needs) (held : List ℕ → Option (List ℕ)) (a b : Answer) → AnswersHeld needs work held a → AnswersHeld needs work held b → AreOne a b
+one_answer needs work held a b p q = one held needs work p.given q.given a b p.give q.give p.answers q.answers
 
 -- ---- what `check` prints
 
 -- the functions that were printed
-pub record Checks (g : Given) (a : Answer) : Type 0 where
+pub record Checks (held : List ℕ → Option (List ℕ)) (name : List ℕ) (a : Answer) : Type 0 where
   pub source : List ℕ
   pub functions : List Function
   pub accepted : IsAccepted source functions
   pub answered : a ≡ checked functions
 
-is_not_done : (a x : Answer) → a ≡ x → a.status ≡ 0 → x.status ≡ 0
-is_not_done a x e zero = ap (λ (y : Answer). y.status) (sym e) ∙ zero
+memory_done : (a : Answer) → a ≡ Err Memory → status_of a ≡ Done → ⊥
+memory_done a e done = let status : status_of a ≡ status_of (Err Memory) = ap status_of e in cc
 
-or_memory_done : (a wanted : Answer) → OrMemory wanted a → a.status ≡ 0 → a ≡ wanted
-or_memory_done a wanted (inl e) zero = e
-or_memory_done a wanted (inr e) zero = absurd (omega (arith, is_not_done a no_memory e zero))
+stop_done : (a : Answer) (s : Stop) → a ≡ Err s → status_of a ≡ Done → ⊥
+stop_done a s e done = by s (sym (ap status_of e) ∙ done) where
+  by : (s : Stop) → status_of (Err s) ≡ Done → ⊥
+  by Memory h = cc
+  by (Refusal cause text) h = cc
 
-refused_done : (source : List ℕ) (a x : Answer) → IsRefusedFile source x ⊎ (x ≡ no_memory) → a ≡ x → a.status ≡ 0 → ⊥
-refused_done source a x (inl p) e zero = omega (arith, is_not_done a (refusal 4 p.text) (e ∙ p.answered) zero)
-refused_done source a x (inr p) e zero = omega (arith, is_not_done a no_memory (e ∙ p) zero)
-
-unread_done : (status : ℕ) (t : List ℕ) (a x : Answer) → OrMemory (refusal status t) x → a ≡ x → a.status ≡ 0 → status ≡ 0
-unread_done status t a x wanted e zero = ap (λ (y : Answer). y.status) (sym (or_memory_done x (refusal status t) wanted (is_not_done a x e zero))) ∙ is_not_done a x e zero
-
-check_done : (name : List ℕ) (g : Given) (s : Stage (List Function)) (a : Answer) → ReadsFunctions name g s → AfterFile checked s a → a.status ≡ 0 → Checks g a
-check_done name (Bytes source) (Reached fs) a p e zero = record { source = source; functions = fs; accepted = p; answered = or_memory_done a (checked fs) e zero }
-check_done name (Bytes source) (Ended x) a p e zero = absurd (refused_done source a x p e zero)
-check_done name TooLong (Ended x) a p e zero = absurd (omega (arith, unread_done 4 (codes "gimple:1:1: TooLarge") a x p e zero))
-check_done name Missing (Ended x) a p e zero = absurd (omega (arith, unread_done 5 (codes "missing: " ++ name) a x p e zero))
-check_done name Unread (Ended x) a p e zero = absurd (omega (arith, unread_done 5 (codes "read: " ++ name) a x p e zero))
-check_done name Unknown (Ended x) a p e zero = absurd (omega (arith, is_not_done a no_memory (e ∙ p) zero))
-check_done name TooLong (Reached fs) a p e zero = absurd p
-check_done name Missing (Reached fs) a p e zero = absurd p
-check_done name Unread (Reached fs) a p e zero = absurd p
-check_done name Unknown (Reached fs) a p e zero = absurd p
+check_done : (held : List ℕ → Option (List ℕ)) (command : Check) (given : List Given) (a : Answer) → Answers (check_needs command) checked given a → status_of a ≡ Done → Checks held command.functions a
+check_done held command [] a e done = absurd (memory_done a e done)
+check_done held command (g ∷ given) a reads done = by g reads.stage reads.comes reads.goes_on where
+  by : (g : Given) (stage : Result (List Function) Stop) → ComesTo (record { kind = Functions; name = command.functions }) g stage
+      → GoesOn stage (λ fs. Answers [] (checked fs) given a) given a → Checks held command.functions a
+  by g (Err stop) comes goes = absurd (stop_done a stop goes.1 done)
+  by (Bytes source) (Ok fs) comes (none, inl e) = record { source = source; functions = fs; accepted = comes; answered = e }
+  by (Bytes source) (Ok fs) comes (none, inr e) = absurd (memory_done a e done)
+  by Missing (Ok fs) comes goes = absurd comes
+  by TooLong (Ok fs) comes goes = absurd comes
+  by Unread (Ok fs) comes goes = absurd comes
+  by NoRoom (Ok fs) comes goes = absurd comes
 
 pub printed_functions : (fs : List Function) → MayBeReadBack fs → AllByRecursion IsValid fs → IsAccepted (text fs) fs
 printed_functions fs may valid = record { stands = read_back fs may; valid = valid }
 
 -- what is read and printed is read again
-printed_is_accepted : (source : List ℕ) (fs : List Function) → IsAccepted source fs → length (text fs) ≤ functions_limit → IsAccepted (text fs) fs
+printed_is_accepted : (source : List ℕ) (fs : List Function) → IsAccepted source fs → length (text fs) ≤ limit_of Functions → IsAccepted (text fs) fs
 printed_is_accepted source fs accepted short = printed_functions fs (read_may_be_printed source fs accepted.stands short) accepted.valid
 
-again_from : (again : List ℕ) (fs : List Function) (b : Answer) → IsAccepted (text fs) fs → WorksOn again (Bytes (text fs)) checked b → (b ≡ checked fs) ⊎ (b ≡ no_memory)
-again_from again fs b accepted works =
-    by (one_answer again (Bytes (text fs)) checked (checked fs) b (record { stage = Reached fs; reads = accepted; after = inl refl }) works) where
-      by : AreOne (checked fs) b → (b ≡ checked fs) ⊎ (b ≡ no_memory)
-      by (inl e) = inl (sym e)
-      by (inr (inl e)) = absurd (omega (arith, is_not_done (checked fs) no_memory e refl))
-      by (inr (inr e)) = inr e
+-- the answer to printed functions
+printed_answer : (held : List ℕ → Option (List ℕ)) (command : Check) (fs : List Function) → IsAccepted (text fs) fs → held command.functions ≡ Some (text fs) → length (text fs) ≤ limit_of Functions
+    → AnswersHeld (check_needs command) checked held (checked fs)
+printed_answer held command fs accepted there short = record {
+  given = Bytes (text fs) ∷ [];
+  give = ((short, there), tt);
+  answers = record { stage = Ok fs; comes = accepted; goes_on = (refl, inl refl) };
+}
 
-given_whole : (limit : ℕ) (held : Option (List ℕ)) (bytes : List ℕ) → held ≡ Some bytes → length bytes ≤ limit → given_of limit held ≡ Bytes bytes
-given_whole limit held bytes e short = ap (given_of limit) e ∙ rw (le-leb (length bytes) limit short) refl
-
-pub printed_again : (held : List ℕ → Option (List ℕ)) (name again : List ℕ) (a b : Answer) → IsHeldAnswer held (Some (Check name)) a → a.status ≡ 0
-    → held again ≡ Some a.out → length a.out ≤ functions_limit → IsHeldAnswer held (Some (Check again)) b → (b ≡ a) ⊎ (b ≡ no_memory)
-printed_again held name again a b (inr e) zero there short second = absurd (omega (arith, is_not_done a no_memory e zero))
-printed_again held name again a b (inl works) zero there short (inr e) = inr e
-printed_again held name again a b (inl works) zero there short (inl works_again) =
-    let done = check_done name (given_of functions_limit (held name)) works.stage a works.reads works.after zero in
-    let out : a.out ≡ text done.functions = ap (λ (x : Answer). x.out) done.answered in
-    let accepted = printed_is_accepted done.source done.functions done.accepted (subst (λ bs. length bs ≤ functions_limit) out short) in
-    let given : given_of functions_limit (held again) ≡ Bytes (text done.functions) = given_whole functions_limit (held again) a.out there short ∙ ap Bytes out in
-    elim (again_from again done.functions b accepted (subst (λ g. WorksOn again g checked b) given works_again)) [
-      | inl e ↦ inl (e ∙ sym done.answered)
-      | inr e ↦ inr e
-    ]
+pub printed_again : (held : List ℕ → Option (List ℕ)) (command again : Check) (a b : Answer) → AnswersHeld (check_needs command) checked held a → status_of a ≡ Done
+    → held again.functions ≡ Some (out_of a) → length (out_of a) ≤ limit_of Functions → AnswersHeld (check_needs again) checked held b → (b ≡ a) ⊎ (b ≡ Err Memory)
+printed_again held command again a b first done there short second =
+    let checks = check_done held command first.given a first.answers done in
+    let out : out_of a ≡ text checks.functions = ap out_of checks.answered in
+    let within : length (text checks.functions) ≤ limit_of Functions = subst (λ (bytes : List ℕ). length bytes ≤ limit_of Functions) out short in
+    let accepted = printed_is_accepted checks.source checks.functions checks.accepted within in
+    by checks.functions checks.answered (one_answer (check_needs again) checked held (checked checks.functions) b (printed_answer held again checks.functions accepted (there ∙ ap Some out) within) second) where
+      by : (fs : List Function) → a ≡ checked fs → AreOne (checked fs) b → (b ≡ a) ⊎ (b ≡ Err Memory)
+      by fs is (inl e) = inl (sym e ∙ sym is)
+      by fs is (inr (inl e)) = absurd cc
+      by fs is (inr (inr e)) = inr e

@@ -1,11 +1,17 @@
 -- What the rows of a pattern file of the first form have in common.
-use Rattle.std.proofs.Common.{◌≡◌, ℕ, ◌+◌, ◌≤◌, List, [], ◌∷◌, ◌++◌, length, true, refl, ap, ◌∙◌, arith, length-append, All}
+use Rattle.std.proofs.Common.{◌≡◌, ℕ, ◌+◌, ◌≤◌, List, [], ◌∷◌, ◌++◌, length, true, refl, ap, ◌∙◌, arith, length-append, All, Result, Ok, Err, IfOk}
 use Rattle.std.specs.List.{list_all, AllByRecursion}
 use Rattle.std.proofs.lemmas.List.Elements.{All-from_recursion}
 use Rattle.pm_ops.specs.declared.code.Code.{Code}
 use Rattle.pm_ops.specs.declared.code.Code.TheVariants.{Plus, Minus, Mult, BitAnd, BitIor, BitXor}
 use Rattle.first_patterns.specs.declared.row.Row.{Row}
 use Rattle.first_patterns.specs.FirstForm.{SpellsRows, SpellsFile, is_first_code}
+use Rattle.gim_ast.specs.declared.function.Function.{Function}
+use Rattle.first_rewriting.specs.Rewriting.{Rewritten, rewriting_of}
+use Rattle.first_patterns.specs.Matching.{row_at}
+use Rattle.match_top.specs.Simplify.{budget, written, simplified}
+use Rattle.match_top.specs.declared.answer.Output.{Output}
+use Rattle.match_top.specs.declared.patterns.PatternFile.{PatternFile}
 use Rattle.first_rewriting.specs.Typed.{KeepTypes, keeps_type}
 
 -- each row begins within its file
@@ -40,3 +46,10 @@ all_keep at (row ∷ rows) text spelled =
 
 pub rows_keep_types : (rows : List Row) (source : List ℕ) → SpellsFile rows source → KeepTypes rows
 rows_keep_types rows source file = all_keep 0 rows source file.spells
+
+-- what is written of a function's rewriting
+pub rewriting_output : {E : Type 0} (file : PatternFile) (f : Function) (name : List ℕ) (done : Rewritten) (r : Result Output E) → name ≡ f.name
+    → done ≡ rewriting_of (row_at file.rows) budget f → IfOk r (λ output. output ≡ written file name done) → IfOk r (λ output. Ok output ≡ simplified file f)
+unfolding simplified
+rewriting_output file f name done (Ok output) is_name is_done is = ap Ok (is ∙ ap (λ (n : List ℕ). written file n done) is_name ∙ ap (written file f.name) is_done)
+rewriting_output file f name done (Err error) is_name is_done is = tt

@@ -1,179 +1,109 @@
--- Each status has its cause in the files that the inputs hold.
-use Rattle.std.proofs.Common.{◌≡◌, ◌⊎◌, ℕ, ◌≤◌, ◌<◌, Bool, true, false, cond, List, length, Option, Some, None, IfSome, IsSomeAnd, refl, sym, ap, subst, ◌∙◌, inl, inr, arith}
-use Rattle.gim_ast.specs.declared.function.Function.{Function}
-use Rattle.first_rewriting.specs.Rewriting.{rewriting_of}
-use Rattle.first_patterns.specs.declared.row.Row.{Row}
-use Rattle.first_patterns.specs.FirstForm.{SpellsFile}
-use Rattle.first_patterns.specs.Matching.{row_at}
+-- The numbers of statuses, and what an answer's status says of its texts.
+use Rattle.std.proofs.Common.{◌≡◌, ◌⊎◌, ◌==◌, ℕ, Bool, true, false, cond, List, [], Result, Ok, Err, refl, sym, ap, ◌∙◌, inl, inr}
 use Rattle.pm_io.specs.Causes.{Rose}
-use Rattle.match_top.specs.Words.{Command, Simplify, Check, Run}
-use Rattle.match_top.specs.Answers.{Answer, Given, Bytes, Missing, TooLong, Unread, Unknown, Stage, Reached, Ended, OrMemory, Agrees, ReadsPatterns, ReadsFunction, AfterPatterns, AfterFunction, simplified, no_memory, budget, patterns_limit, functions_limit}
-use Rattle.match_top.specs.Commands.{checked, ran}
-use Rattle.match_top.specs.Given.{HasReason, CommandAgrees}
-use Rattle.match_top.specs.Program.{IsAnswer}
-use Rattle.match_top.proofs.FileLemmas.{checked_ends, ran_ends, silent, works_says}
-use Rattle.match_top.specs.Statuses.{IsPatterns, NotPatterns, NotFunction, IsRewritten, Says, StatusSays}
-use Rattle.match_top.specs.Writing.{Sunk, Writes}
+use Rattle.match_top.specs.Answer.{Answer, status_of, out_of, report_of}
+use Rattle.match_top.specs.Program.{IsSilent}
+use Rattle.match_top.specs.Status.{code}
+use Rattle.match_top.specs.Writing.{Sunk, Writes, WroteAll}
+use Rattle.match_top.specs.declared.answer.Stop.{Stop}
+use Rattle.match_top.specs.declared.answer.Stop.TheVariants.{Memory, Refusal}
+use Rattle.match_top.specs.declared.status.Cause.{Cause}
+use Rattle.match_top.specs.declared.status.Cause.TheVariants.{NoCommand, BadPatterns, BadFunctions, NoFile, Undefined, OutOfFuel, NoRun}
+use Rattle.match_top.specs.declared.status.Status.{Status}
+use Rattle.match_top.specs.declared.status.Status.TheVariants.{Done, Refused, WriteFailed, Exhausted, NoMemory}
 
-module _ (patterns functions : Option (List ℕ)) (rose : Type 0) (status : ℕ) where
-  says_three : status ≡ 3 → NotPatterns patterns → Says patterns functions rose status
-  says_three e cause = record {
-    three = λ h. cause;
-    four = λ h. absurd (omega (arith, e, h));
-    five = λ h. absurd (omega (arith, e, h));
-    zero = λ h. absurd (omega (arith, e, h));
-    seven = λ h. absurd (omega (arith, e, h));
-  }
+-- ---- statuses of one number are one
 
-  says_four : status ≡ 4 → IsPatterns patterns → NotFunction functions → Says patterns functions rose status
-  says_four e accepted cause = record {
-    three = λ h. absurd (omega (arith, e, h));
-    four = λ h. (accepted, cause);
-    five = λ h. absurd (omega (arith, e, h));
-    zero = λ h. absurd (omega (arith, e, h));
-    seven = λ h. absurd (omega (arith, e, h));
-  }
+abbrev with_code : ℕ → Status
+with_code n =
+    cond (n == 0) Done (cond (n == 2) (Refused NoCommand) (cond (n == 3) (Refused BadPatterns) (cond (n == 4) (Refused BadFunctions) (cond (n == 5) (Refused NoFile)
+    (cond (n == 6) WriteFailed (cond (n == 7) Exhausted (cond (n == 8) NoMemory (cond (n == 9) (Refused Undefined) (cond (n == 10) (Refused OutOfFuel) (Refused NoRun))))))))))
 
-  says_five : status ≡ 5 → (patterns ≡ None) ⊎ ((IsPatterns patterns × (functions ≡ None)) ⊎ rose) → Says patterns functions rose status
-  says_five e cause = record {
-    three = λ h. absurd (omega (arith, e, h));
-    four = λ h. absurd (omega (arith, e, h));
-    five = λ h. cause;
-    zero = λ h. absurd (omega (arith, e, h));
-    seven = λ h. absurd (omega (arith, e, h));
-  }
+known : (status : Status) → with_code (code status) ≡ status
+known Done = refl
+known (Refused NoCommand) = refl
+known (Refused BadPatterns) = refl
+known (Refused BadFunctions) = refl
+known (Refused NoFile) = refl
+known WriteFailed = refl
+known Exhausted = refl
+known NoMemory = refl
+known (Refused Undefined) = refl
+known (Refused OutOfFuel) = refl
+known (Refused NoRun) = refl
 
-  says_done : (exhausted : Bool) → status ≡ cond exhausted 7 0 → IsRewritten patterns functions exhausted → Says patterns functions rose status
-  says_done true e done = record {
-    three = λ h. absurd (omega (arith, e, h));
-    four = λ h. absurd (omega (arith, e, h));
-    five = λ h. absurd (omega (arith, e, h));
-    zero = λ h. absurd (omega (arith, e, h));
-    seven = λ h. done;
-  }
-  says_done false e done = record {
-    three = λ h. absurd (omega (arith, e, h));
-    four = λ h. absurd (omega (arith, e, h));
-    five = λ h. absurd (omega (arith, e, h));
-    zero = λ h. done;
-    seven = λ h. absurd (omega (arith, e, h));
-  }
+one_status : (s t : Status) → code s ≡ code t → s ≡ t
+one_status s t e = sym (known s) ∙ ap with_code e ∙ known t
 
-  -- 6 and 8 say nothing of the files
-  says_eight : (status ≡ 6) ⊎ (status ≡ 8) → Says patterns functions rose status
-  says_eight (inl e) = record {
-    three = λ h. absurd (omega (arith, e, h));
-    four = λ h. absurd (omega (arith, e, h));
-    five = λ h. absurd (omega (arith, e, h));
-    zero = λ h. absurd (omega (arith, e, h));
-    seven = λ h. absurd (omega (arith, e, h));
-  }
-  says_eight (inr e) = record {
-    three = λ h. absurd (omega (arith, e, h));
-    four = λ h. absurd (omega (arith, e, h));
-    five = λ h. absurd (omega (arith, e, h));
-    zero = λ h. absurd (omega (arith, e, h));
-    seven = λ h. absurd (omega (arith, e, h));
-  }
+-- ---- what was written
 
-abbrev status_of : Answer → ℕ
-status_of a = a.status
+-- the status is the answer's, or that of a failed write
+pub status_or_failed : (answer : Answer) (out report : Sunk) (number : ℕ) (status : Status) → Writes answer out report number → number ≡ code status → (status ≡ status_of answer) ⊎ (status ≡ WriteFailed)
+status_or_failed answer out report number status (inl whole) is = inl (one_status status (status_of answer) (sym is ∙ whole.status))
+status_or_failed answer out report number status (inr (inl failed)) is = inr (one_status status WriteFailed (sym is ∙ failed.status))
+status_or_failed answer out report number status (inr (inr failed)) is = inr (one_status status WriteFailed (sym is ∙ failed.status))
 
-long_source : (limit : ℕ) (holds : Option (List ℕ)) → IsSomeAnd holds (λ file. limit < length file) → (source : List ℕ) × (holds ≡ Some source) × (limit < length source)
-long_source limit None h = absurd h
-long_source limit (Some source) h = (source, refl, h)
+pub some_status : (answer : Answer) (out report : Sunk) (number : ℕ) → Writes answer out report number → (status : Status) × (number ≡ code status)
+some_status answer out report number (inl whole) = (status_of answer, whole.status)
+some_status answer out report number (inr (inl failed)) = (WriteFailed, failed.status)
+some_status answer out report number (inr (inr failed)) = (WriteFailed, failed.status)
 
-module _ (patterns functions : List ℕ) (held_patterns held_functions : Option (List ℕ)) (before now : ℕ) where
-  abbrev Meant : Answer → Type 0
-  Meant a = Says held_patterns held_functions (Rose before now) a.status
+never_failed : (exhausted : Bool) → cond exhausted Exhausted Done ≡ WriteFailed → ⊥
+never_failed true e = cc
+never_failed false e = cc
 
-  by_memory : (a : Answer) → a ≡ no_memory → Meant a
-  by_memory a e = says_eight held_patterns held_functions (Rose before now) a.status (inr (ap status_of e))
+no_answer_failed : (answer : Answer) → WriteFailed ≡ status_of answer → ⊥
+no_answer_failed (Ok output) e = never_failed output.exhausted (sym e)
+no_answer_failed (Err (Refusal cause text)) e = cc
+no_answer_failed (Err Memory) e = cc
 
-  ended_patterns : (p : Given) (a : Answer) → ReadsPatterns patterns p (Ended a) → Agrees held_patterns patterns_limit p → HasReason before now p → Meant a
-  ended_patterns (Bytes source) a (inl h) agrees reason = says_three held_patterns held_functions (Rose before now) a.status (ap status_of h.1) (record { source = source; held = agrees.0; refused = inr h.0 })
-  ended_patterns (Bytes source) a (inr e) agrees reason = by_memory a e
-  ended_patterns TooLong a (inl e) agrees reason =
-      let long = long_source patterns_limit held_patterns agrees in
-      says_three held_patterns held_functions (Rose before now) a.status (ap status_of e) (record { source = long.0; held = long.1; refused = inl long.2 })
-  ended_patterns TooLong a (inr e) agrees reason = by_memory a e
-  ended_patterns Missing a (inl e) agrees reason = says_five held_patterns held_functions (Rose before now) a.status (ap status_of e) (inl agrees)
-  ended_patterns Missing a (inr e) agrees reason = by_memory a e
-  ended_patterns Unread a (inl e) agrees reason = says_five held_patterns held_functions (Rose before now) a.status (ap status_of e) (inr (inr reason))
-  ended_patterns Unread a (inr e) agrees reason = by_memory a e
-  ended_patterns Unknown a e agrees reason = by_memory a e
+-- a write failed only where a sink's count rose
+pub failed_only : (answer : Answer) (out report : Sunk) (number : ℕ) → Writes answer out report number → number ≡ code WriteFailed
+    → Rose out.old.faults out.new.faults ⊎ Rose report.old.faults report.new.faults
+failed_only answer out report number (inl whole) is = absurd (no_answer_failed answer (one_status WriteFailed (status_of answer) (sym is ∙ whole.status)))
+failed_only answer out report number (inr (inl failed)) is = inl failed.out_front.cause
+failed_only answer out report number (inr (inr failed)) is = inr failed.report_front.cause
 
-  ended_function : IsPatterns held_patterns → (g : Given) (a : Answer) → ReadsFunction functions g (Ended a) → Agrees held_functions functions_limit g → HasReason before now g → Meant a
-  ended_function accepted (Bytes source) a (inl h) agrees reason = says_four held_patterns held_functions (Rose before now) a.status (ap status_of h.1) accepted (record { source = source; held = agrees.0; refused = inr h.0 })
-  ended_function accepted (Bytes source) a (inr e) agrees reason = by_memory a e
-  ended_function accepted TooLong a (inl e) agrees reason =
-      let long = long_source functions_limit held_functions agrees in
-      says_four held_patterns held_functions (Rose before now) a.status (ap status_of e) accepted (record { source = long.0; held = long.1; refused = inl long.2 })
-  ended_function accepted TooLong a (inr e) agrees reason = by_memory a e
-  ended_function accepted Missing a (inl e) agrees reason = says_five held_patterns held_functions (Rose before now) a.status (ap status_of e) (inr (inl (accepted, agrees)))
-  ended_function accepted Missing a (inr e) agrees reason = by_memory a e
-  ended_function accepted Unread a (inl e) agrees reason = says_five held_patterns held_functions (Rose before now) a.status (ap status_of e) (inr (inr reason))
-  ended_function accepted Unread a (inr e) agrees reason = by_memory a e
-  ended_function accepted Unknown a e agrees reason = by_memory a e
+-- where no sink's count rose, all was written
+pub wrote_all : (answer : Answer) (out report : Sunk) (number : ℕ) → Writes answer out report number → ¬ Rose out.old.faults out.new.faults → ¬ Rose report.old.faults report.new.faults
+    → WroteAll answer out report number
+wrote_all answer out report number (inl whole) quiet_out quiet_report = whole
+wrote_all answer out report number (inr (inl failed)) quiet_out quiet_report = absurd (quiet_out failed.out_front.cause)
+wrote_all answer out report number (inr (inr failed)) quiet_out quiet_report = absurd (quiet_report failed.report_front.cause)
 
-  status_simplified : (source : List ℕ) (rows : List Row) (f : Function) → (simplified source rows f).status ≡ cond (rewriting_of (row_at rows) budget f).exhausted 7 0
-  unfolding simplified
-  status_simplified source rows f = refl
+-- ---- refusals
 
-  reached_function : (accepted : IsPatterns held_patterns) (g : Given) (f : Function) (a : Answer) → ReadsFunction functions g (Reached f) → Agrees held_functions functions_limit g
-      → OrMemory (simplified accepted.source accepted.rows f) a → Meant a
-  reached_function accepted (Bytes source) f a spells agrees (inl e) =
-      says_done held_patterns held_functions (Rose before now) a.status (rewriting_of (row_at accepted.rows) budget f).exhausted (ap status_of e ∙ status_simplified accepted.source accepted.rows f)
-      (record { accepted = accepted; source = source; function = f; held = agrees.0; spells = spells; ends = refl })
-  reached_function accepted (Bytes source) f a spells agrees (inr e) = by_memory a e
-  reached_function accepted TooLong f a spells agrees h = absurd spells
-  reached_function accepted Missing f a spells agrees h = absurd spells
-  reached_function accepted Unread f a spells agrees h = absurd spells
-  reached_function accepted Unknown f a spells agrees h = absurd spells
+never_refused : (exhausted : Bool) (cause : Cause) → Refused cause ≡ cond exhausted Exhausted Done → ⊥
+never_refused true cause e = cc
+never_refused false cause e = cc
 
-  after_function : (accepted : IsPatterns held_patterns) (g : Given) (stage : Stage Function) (a : Answer) → ReadsFunction functions g stage → AfterFunction accepted.source accepted.rows stage a
-      → Agrees held_functions functions_limit g → HasReason before now g → Meant a
-  after_function accepted g (Ended refused) a reads e agrees reason = subst Meant (sym e) (ended_function accepted g refused reads agrees reason)
-  after_function accepted g (Reached f) a reads h agrees reason = reached_function accepted g f a reads agrees h
+never_memory : (exhausted : Bool) → NoMemory ≡ cond exhausted Exhausted Done → ⊥
+never_memory true e = cc
+never_memory false e = cc
 
-  after_patterns : (p g : Given) (stage : Stage (List ℕ × List Row)) (a : Answer) → ReadsPatterns patterns p stage → AfterPatterns functions g stage a
-      → Agrees held_patterns patterns_limit p → Agrees held_functions functions_limit g → HasReason before now p → HasReason before now g → Meant a
-  after_patterns p g (Ended refused) a reads e agrees_p agrees_g reason_p reason_g = subst Meant (sym e) (ended_patterns p refused reads agrees_p reason_p)
-  after_patterns (Bytes source) g (Reached (bytes, rows)) a reads next agrees_p agrees_g reason_p reason_g =
-      let accepted : IsPatterns held_patterns = record { source = bytes; rows = rows; held = agrees_p.0 ∙ ap (λ (s : List ℕ). Some s) (sym reads.0); within = subst (λ (s : List ℕ). length s ≤ patterns_limit) (sym reads.0) agrees_p.1; spells = subst (λ (s : List ℕ). SpellsFile rows s) (sym reads.0) reads.1 } in
-      after_function accepted g next.stage a next.reads next.after agrees_g reason_g
-  after_patterns TooLong g (Reached (bytes, rows)) a reads next agrees_p agrees_g reason_p reason_g = absurd reads
-  after_patterns Missing g (Reached (bytes, rows)) a reads next agrees_p agrees_g reason_p reason_g = absurd reads
-  after_patterns Unread g (Reached (bytes, rows)) a reads next agrees_p agrees_g reason_p reason_g = absurd reads
-  after_patterns Unknown g (Reached (bytes, rows)) a reads next agrees_p agrees_g reason_p reason_g = absurd reads
+refused_out : (answer : Answer) (cause : Cause) → Refused cause ≡ status_of answer → out_of answer ≡ []
+refused_out (Ok output) cause e = absurd (never_refused output.exhausted cause e)
+refused_out (Err stop) cause e = refl
 
-answer_says : (command : Option Command) (held : List ℕ → Option (List ℕ)) (left : List ℕ) (p g : Given) (a : Answer) (before now : ℕ)
-    → IsAnswer command p g a → HasReason before now p → HasReason before now g → CommandAgrees held left command p g → StatusSays held command (Rose before now) a.status
-answer_says None held left p g a before now (inl e) reason_p reason_g agrees = inl (ap status_of e)
-answer_says None held left p g a before now (inr e) reason_p reason_g agrees = inr (inr (ap status_of e))
-answer_says (Some (Simplify patterns functions)) held left p g a before now (inl h) reason_p reason_g agrees =
-    after_patterns patterns functions (held patterns) (held functions) before now p g h.stage a h.reads h.after agrees.patterns_given agrees.functions_agree.functions_given reason_p reason_g
-answer_says (Some (Simplify patterns functions)) held left p g a before now (inr e) reason_p reason_g agrees =
-    by_memory patterns functions (held patterns) (held functions) before now a e
-answer_says (Some (Check functions)) held left p g a before now h reason_p reason_g agrees =
-    works_says (held functions) (Rose before now) checked before now (λ rose. rose) functions g a checked_ends h agrees.functions_given reason_g
-answer_says (Some (Run functions name values fuel)) held left p g a before now h reason_p reason_g agrees =
-    works_says (held functions) (Rose before now) (ran name values fuel) before now (λ rose. rose) functions g a (ran_ends name values fuel) h agrees.functions_given reason_g
+memory_is : (answer : Answer) → NoMemory ≡ status_of answer → answer ≡ Err Memory
+memory_is (Ok output) e = absurd (never_memory output.exhausted e)
+memory_is (Err (Refusal cause text)) e = absurd cc
+memory_is (Err Memory) e = refl
 
-six_says : (command : Option Command) (held : List ℕ → Option (List ℕ)) (rose : Type 0) (status : ℕ) → status ≡ 6 → StatusSays held command rose status
-six_says None held rose status e = inr (inl e)
-six_says (Some (Simplify patterns functions)) held rose status e = says_eight (held patterns) (held functions) rose status (inl e)
-six_says (Some (Check functions)) held rose status e = silent (held functions) rose checked status (inl e)
-six_says (Some (Run functions name values fuel)) held rose status e = silent (held functions) rose (ran name values fuel) status (inl e)
+-- with a refusal or want of memory there is no text for `out`
+pub silent_out : (answer : Answer) (out report : Sunk) (number : ℕ) → Writes answer out report number → IsSilent number → out_of answer ≡ []
+silent_out answer out report number writes (inl (cause, is)) = by (status_or_failed answer out report number (Refused cause) writes is) where
+  by : (Refused cause ≡ status_of answer) ⊎ (Refused cause ≡ WriteFailed) → out_of answer ≡ []
+  by (inl e) = refused_out answer cause e
+  by (inr e) = absurd cc
+silent_out answer out report number writes (inr is) = by (status_or_failed answer out report number NoMemory writes is) where
+  by : (NoMemory ≡ status_of answer) ⊎ (NoMemory ≡ WriteFailed) → out_of answer ≡ []
+  by (inl e) = ap out_of (memory_is answer e)
+  by (inr e) = absurd cc
 
-written_says : (command : Option Command) (held : List ℕ → Option (List ℕ)) (rose : Type 0) (a : Answer) (out report : Sunk) (status : ℕ) → Writes a out report status → StatusSays held command rose a.status → StatusSays held command rose status
-written_says command held rose a out report status (inl whole) says = subst (StatusSays held command rose) (sym whole.status_is) says
-written_says command held rose a out report status (inr (inl failed)) says = six_says command held rose status failed.status_is
-written_says command held rose a out report status (inr (inr failed)) says = six_says command held rose status failed.status_is
-
-pub status_says : (command : Option Command) (holds : Option (List ℕ → Option (List ℕ))) (left : List ℕ) (p g : Given) (a : Answer) (before now : ℕ) (out report : Sunk) (status : ℕ)
-    → IsAnswer command p g a → Writes a out report status → HasReason before now p → HasReason before now g → IfSome holds (λ held. CommandAgrees held left command p g)
-    → IfSome holds (λ held. StatusSays held command (Rose before now) status)
-status_says command None left p g a before now out report status h writes reason_p reason_g agrees = tt
-status_says command (Some held) left p g a before now out report status h writes reason_p reason_g agrees =
-    written_says command held (Rose before now) a out report status writes (answer_says command held left p g a before now h reason_p reason_g agrees)
+-- with want of memory there is none for `report` either
+pub silent_report : (answer : Answer) (out report : Sunk) (number : ℕ) → Writes answer out report number → number ≡ code NoMemory → report_of answer ≡ []
+silent_report answer out report number writes is = by (status_or_failed answer out report number NoMemory writes is) where
+  by : (NoMemory ≡ status_of answer) ⊎ (NoMemory ≡ WriteFailed) → report_of answer ≡ []
+  by (inl e) = ap report_of (memory_is answer e)
+  by (inr e) = absurd cc

@@ -1,62 +1,59 @@
--- What `check` and `run` answer to the functions of an accepted file.
-use Rattle.std.specs.Prelude.{ℕ, ◌==◌, bytes_eq, if◌then◌else◌, Bool, true, false, ℤ, Option, Some, None, List, [], ◌∷◌, ◌++◌, codes}
-use Rattle.std.specs.Fmt.{signed_decimal}
-use Rattle.pm_wide.specs.Types.{Word, value}
-use Rattle.gim_ast.specs.declared.function.Function.{Function}
-use Rattle.gim_ast.specs.declared.function.Decl.{Decl}
-use Rattle.gim_ast.specs.Functions.{first_where}
-use Rattle.lexing.specs.Numbers.{number_after}
-use Rattle.gim_printer.specs.Printing.{text, assigned_text}
-use Rattle.gim_ast.specs.Runs.{Outcome, Returned, Undefined, Running, run_of}
-use Rattle.gim_text.specs.Literals.{signed, word_in}
-use Rattle.match_top.specs.Answers.{Answer, refusal}
-use Rattle.match_top.specs.Report.{line}
+-- The commands, each by a line in every table.
+use Rattle.std.specs.Prelude.{ℕ, Bool, true, false, if◌then◌else◌, ◌&&◌, Option, Some, None, option_map, List, [], ◌∷◌, codes, bytes_eq, Err}
+use Rattle.match_top.specs.Answer.{Answer, refusal}
+use Rattle.match_top.specs.Needs.{Need}
+use Rattle.match_top.specs.Given.{Work}
+use Rattle.match_top.specs.Simplify.{simplify_of, simplify_needs, simplified, simplify_ends}
+use Rattle.match_top.specs.Check.{check_of, check_needs, checked, check_ends}
+use Rattle.match_top.specs.Run.{run_of_words, run_needs, ran, run_ends}
+use Rattle.match_top.specs.declared.commands.Command.{Command}
+use Rattle.match_top.specs.declared.commands.Command.TheVariants.{Simplify, Check, Run}
+use Rattle.match_top.specs.declared.status.Cause.TheVariants.{NoCommand, BadPatterns, BadFunctions, NoFile}
+use Rattle.match_top.specs.declared.status.Status.{Status}
+use Rattle.match_top.specs.declared.status.Status.TheVariants.{Refused, WriteFailed, NoMemory}
 
--- `check` prints the functions
-abbrev pub checked : List Function → Answer
-checked fs = record { status = 0; out = text fs; report = [] }
+-- the command that words spell; other words spell none
+abbrev pub command_of : List (List ℕ) → Option Command
+command_of [] = None
+command_of (word ∷ rest) =
+    if bytes_eq word (codes "simplify") then option_map Simplify (simplify_of rest)
+    else (if bytes_eq word (codes "check") then option_map Check (check_of rest)
+    else (if bytes_eq word (codes "run") then option_map Run (run_of_words rest)
+    else None))
 
--- ---- `run`
+-- the files that it needs, in the order in which it begins them
+abbrev pub needs_of : Option Command → List Need
+needs_of None = []
+needs_of (Some (Simplify command)) = simplify_needs command
+needs_of (Some (Check command)) = check_needs command
+needs_of (Some (Run command)) = run_needs command
 
--- the number of a value
-abbrev pub number_of_value : List ℕ → ℤ
-number_of_value [] = signed false 0
-number_of_value (b ∷ rest) = if b == 45 then signed true (number_after 0 rest) else signed false (number_after 0 (b ∷ rest))
+-- what it does with what they stand for
+abbrev pub work_of : (command : Option Command) → Work (needs_of command)
+work_of None = Err (refusal NoCommand (codes "match_cli: bad command line"))
+work_of (Some (Simplify command)) = simplified
+work_of (Some (Check command)) = checked
+work_of (Some (Run command)) = ran command
 
-abbrev pub and_arguments : Option Word → Option (List Word) → Option (List Word)
-and_arguments (Some w) (Some words) = Some (w ∷ words)
-and_arguments w words = None
+-- work never ends as a file or a sink would have it
+abbrev pub is_of_work : Status → Bool
+is_of_work (Refused BadPatterns) = false
+is_of_work (Refused BadFunctions) = false
+is_of_work (Refused NoFile) = false
+is_of_work WriteFailed = false
+is_of_work NoMemory = false
+is_of_work status = true
 
--- a word for each parameter, where there are as many values and each is in the range of its parameter's type
-abbrev pub arguments_of : List Decl → List (List ℕ) → Option (List Word)
-arguments_of [] [] = Some []
-arguments_of (decl ∷ decls) (v ∷ vs) = and_arguments (word_in decl.ty (number_of_value v)) (arguments_of decls vs)
-arguments_of decls vs = None
+-- how that may end
+abbrev pub no_command_ends : Status → Bool
+no_command_ends (Refused NoCommand) = true
+no_command_ends status = false
 
--- the function of that name
-abbrev pub is_named : List ℕ → Function → Bool
-is_named name f = bytes_eq f.name name
+abbrev pub ends_of : Option Command → Status → Bool
+ends_of None status = no_command_ends status
+ends_of (Some (Simplify command)) status = simplify_ends status
+ends_of (Some (Check command)) status = check_ends status
+ends_of (Some (Run command)) status = run_ends status
 
-abbrev pub function_named : List ℕ → List Function → Option Function
-function_named name fs = first_where (is_named name) fs
-
--- the returned value, the name whose operation has no value, or that the fuel was spent
-abbrev pub outcome_answer : Function → Outcome → Answer
-outcome_answer f (Returned w) = record { status = 0; out = line (signed_decimal (value w)); report = [] }
-outcome_answer f (Undefined x) = refusal 9 (codes "undefined " ++ f.name ++ codes " " ++ assigned_text f x)
-outcome_answer f Running = refusal 10 (codes "out of fuel")
-
--- no function of that name, or values that don't suit its parameters
-abbrev pub no_run : List ℕ → Answer
-no_run name = refusal 11 (codes "no run " ++ name)
-
-abbrev pub run_answer : List ℕ → ℕ → Function → Option (List Word) → Answer
-run_answer name fuel f None = no_run name
-run_answer name fuel f (Some args) = outcome_answer f (run_of f args fuel)
-
-abbrev pub ran_by : List ℕ → List (List ℕ) → ℕ → Option Function → Answer
-ran_by name values fuel None = no_run name
-ran_by name values fuel (Some f) = run_answer name fuel f (arguments_of f.params values)
-
-unfoldable pub ran : List ℕ → List (List ℕ) → ℕ → List Function → Answer
-ran name values fuel fs = ran_by name values fuel (function_named name fs)
+abbrev pub may_end : Option Command → Status → Bool
+may_end command status = is_of_work status && ends_of command status

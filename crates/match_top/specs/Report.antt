@@ -1,5 +1,5 @@
 -- The lines of the report.
-use Rattle.std.specs.Prelude.{ℕ, ◌-◌, if◌then◌else◌, List, [], ◌∷◌, ◌++◌, codes, decimal, slice_get}
+use Rattle.std.specs.Prelude.{ℕ, ◌-◌, if◌then◌else◌, List, [], ◌++◌, codes, decimal, slice_get}
 use Rattle.std.specs.List.{flat_map}
 use Rattle.std.specs.Option.{option_map_or}
 use Rattle.gim_printer.specs.Printing.{name_text}
@@ -7,10 +7,7 @@ use Rattle.first_patterns.specs.Subjects.{Site, AtStmt, AtCond}
 use Rattle.first_rewriting.specs.Rewriting.{What, IsCopy, IsSwap, IsFold, IsRow, Firing, Rewritten}
 use Rattle.first_patterns.specs.declared.row.Row.{Row}
 use Rattle.pm_places.specs.Places.{line_of, column_of}
-
--- a text as a line
-abbrev pub line : List ℕ → List ℕ
-line text = text ++ 10 ∷ []
+use Rattle.match_top.specs.Refusals.{line}
 
 -- the subject: a name as it is printed, or the block whose condition it is
 abbrev pub site_text : Site → List ℕ → List ℕ

@@ -1,35 +1,29 @@
-//! An answer, and why the work on a command ends early.
-ghost use Rattle.std.specs.Prelude.{◌≡◌, ◌++◌, ◌∷◌, [], IfOk};
-ghost use Rattle.match_top.specs.Answers.{refusal};
-ghost use Rattle.match_top.specs.Stages.{answer_of, answered, refused_with};
+//! What work gives, and why it ends early.
+ghost use Rattle.std.specs.Prelude.{◌≡◌};
+ghost use Rattle.match_top.specs.Answer.{status_of, status_of_output};
 
+use crate::status::{Cause, Status};
 use pm_items::Items;
 use pm_ops::OutOfMemory;
-use std::alloc::Global;
 
-/// The status for want of memory.
-const NO_MEMORY: u8 = 8;
-
-/// A status, and what is written to `out` and to `report`.
+/// What work gives that came to its end.
 #[derive(Drop)]
-pub struct Answer {
-    pub status: u8,
+pub struct Output {
+    /// Whether a budget was spent and a further step exists.
+    pub exhausted: bool,
+    /// What is written to `out`.
     pub out: Items<u8>,
+    /// What is written to `report`.
     pub report: Items<u8>,
 }
 
-/// Why the work ends before its last stage.
+/// Why work ends before its end. It has no text for `out`.
 #[derive(Drop)]
 pub enum Stop {
     /// Memory ran out.
     Memory,
-    /// The command is refused. A refusal has no text for `out`.
-    Refused {
-        /// The status, 2 to 5.
-        status: u8,
-        /// The line of the report, with its end.
-        report: Items<u8>,
-    },
+    /// The command is refused: why, and the line of the report with its end.
+    Refusal(Cause, Items<u8>),
 }
 
 impl From<OutOfMemory> for Stop {
@@ -43,41 +37,24 @@ impl From<OutOfMemory> for Stop {
     }
 }
 
-/// A refusal whose line is these words and then a name.
-pub fn refused(alloc: Global, status: u8, words: &str, name: &str) -> Stop
-    ensures { refused_with (refusal status (words.now ++ name.now)) result }
+/// The status of an answer.
+pub fn status(answer: &Result<Output, Stop>) -> Status
+    ensures { result ≡ status_of answer.now }
 {
-    match refusal_line(alloc, words, name) {
-        Ok(report) => Stop::Refused { status, report },
-        Err(_) => Stop::Memory,
+    match answer {
+        Ok(output) => output_status(output),
+        Err(Stop::Refusal(cause, _)) => Status::Refused(*cause),
+        Err(Stop::Memory) => Status::NoMemory,
     }
 }
 
-fn refusal_line(alloc: Global, words: &str, name: &str) -> Result<Items<u8>, OutOfMemory>
-    ensures { IfOk result (λ text. text ≡ words.now ++ name.now ++ 10 ∷ []) }
+/// The status of work that came to its end.
+fn output_status(output: &Output) -> Status
+    ensures { result ≡ status_of_output output.now }
 {
-    let mut text = Items::new(alloc);
-    text.extend_from_slice(words.as_bytes())?;
-    text.extend_from_slice(name.as_bytes())?;
-    text.extend_from_slice(b"\n")?;
-    Ok(text)
-}
-
-/// The answer of work that came to its end or stopped before. Takes no memory.
-pub fn settle(alloc: Global, work: Result<Answer, Stop>) -> Answer
-    ensures { answer_of result ≡ answered work }
-{
-    match work {
-        Ok(answer) => answer,
-        Err(Stop::Refused { status, report }) => Answer {
-            status,
-            out: Items::new(alloc),
-            report,
-        },
-        Err(Stop::Memory) => Answer {
-            status: NO_MEMORY,
-            out: Items::new(alloc),
-            report: Items::new(alloc),
-        },
+    if output.exhausted {
+        Status::Exhausted
+    } else {
+        Status::Done
     }
 }

@@ -110,5 +110,13 @@ fn words_without_a_command(rt: HostRuntime) -> Result<(), Fail> {
     compare(&rt, &["run", "G", "f", "-0"], SAME, bad)?;
     compare(&rt, &["run", "G", "f", "1", "--fuel"], SAME, bad)?;
     compare(&rt, &["run", "G", "f", "--fuel", "100000001"], SAME, bad)?;
-    compare(&rt, &["check", "--G"], SAME, bad)
+    compare(&rt, &["check", "--G"], SAME, bad)?;
+    compare(&rt, &["check", "G", "--fuel", "5"], SAME, bad)?;
+    compare(
+        &rt,
+        &["run", "G", "f", "1", "--fuel", "5", "--fuel", "5"],
+        SAME,
+        bad,
+    )?;
+    compare(&rt, &["run", "--fuel", "5", "G", "f", "1"], SAME, bad)
 }

@@ -2,19 +2,25 @@
 #![tactic(auto)]
 
 mod answer;
-mod file_commands;
-mod gimple_file;
-mod gimple_lines;
+mod commands;
+mod first_form;
+mod function_lines;
+mod functions;
+mod given;
 pub mod laws;
+mod needs;
+mod options;
+mod patterns;
 mod program;
+mod refusals;
 mod report;
-mod simplify;
-mod stages;
+mod status;
 mod words;
 mod writing;
 
+pub use commands::{Command, settings};
 pub use program::run;
-pub use words::{Command, settings};
+pub use status::{Cause, Status};
 
 #[cfg(test)]
 mod file_tests;

@@ -1,160 +1,100 @@
 //! The words of a command line.
-ghost use Rattle.std.specs.Prelude.{◌≡◌, ◌++◌, List, ℕ, IfOk, bytes_eq, codes, map, string_bytes, option_map};
-ghost use Rattle.match_top.specs.Words.{command_of, simplify_of, check_of, run_of, values_of, fuel_of, is_positional, is_size, is_value};
-ghost use Rattle.match_top.specs.Settings.{spelled, tail_of};
+ghost use Rattle.std.specs.Prelude.{◌≡◌, ◌≤◌, length, map, string_bytes, IfOk};
+ghost use Rattle.match_top.specs.Words.{is_option, is_name, first_option, positional, option_words};
 
-use lexing::{is_number_text, number_below};
+use pm_items::Items;
 use pm_ops::OutOfMemory;
 use std::alloc::Global;
+use std::marker::Model;
 
-/// How many blocks a function may enter where the words don't say.
-const DEFAULT_FUEL: u32 = 1_000_000;
-
-/// One more than the most blocks that the words may allow.
-const FUELS: u64 = 100_000_001;
-
-/// What the words of the command line ask for.
+/// A word, which contracts see as its bytes.
 #[derive(Debug, Drop)]
-pub enum Command {
-    /// `simplify P G`: the names of the pattern file and of the GIMPLE file.
-    Simplify(String, String),
-    /// `check G`: the name of the GIMPLE file.
-    Check(String),
-    /// `run G F V.. [--fuel N]`: the names of the GIMPLE file and of a function, the values for its parameters, and how many
-    /// blocks it may enter.
-    Run(String, String, Vec<String>, u32),
+pub struct Word {
+    text: String,
 }
 
-/// The command that the words spell, or nothing where they spell none.
-pub fn settings(alloc: Global, words: &[String]) -> Result<Option<Command>, OutOfMemory>
-    ensures { IfOk result (λ command. spelled command ≡ command_of (map string_bytes words.now)) }
-{
-    let [word, rest @ ..] = words else {
-        return Ok(None);
-    };
-    match word.as_str() {
-        "simplify" => simplify(alloc, rest),
-        "check" => check(alloc, rest),
-        "run" => run(alloc, rest),
-        _ => Ok(None),
+impl Model for Word {
+    ghost use Rattle.std.specs.Prelude.{List, ℕ, string_bytes};
+
+    ghost Value = { List ℕ };
+
+    ghost view = { λ word. string_bytes word.text };
+}
+
+impl Word {
+    /// An equal word.
+    pub fn copy(alloc: Global, word: &String) -> Result<Word, OutOfMemory>
+        ensures { IfOk result (λ copy. copy ≡ string_bytes word.now) }
+    {
+        let text = String::from_str(alloc, word.as_str())?;
+        Ok(Word { text })
+    }
+
+    /// The word as a text.
+    pub fn as_str(&self) -> &str
+        ensures { result.now ≡ self.now }
+    {
+        self.text.as_str()
+    }
+
+    /// The bytes of the word.
+    pub fn bytes(&self) -> &[u8]
+        ensures { result.now ≡ self.now }
+    {
+        self.text.as_bytes()
     }
 }
 
-/// The words behind `simplify`.
-fn simplify(alloc: Global, words: &[String]) -> Result<Option<Command>, OutOfMemory>
-    ensures { IfOk result (λ command. spelled command ≡ simplify_of (map string_bytes words.now)) }
+/// Equal words.
+pub fn copies(alloc: Global, words: &[String]) -> Result<Items<Word>, OutOfMemory>
+    ensures { IfOk result (λ copies. copies ≡ map string_bytes words.now) }
 {
-    let [patterns, functions] = words else {
-        return Ok(None);
-    };
-    if !is_name(patterns.as_str()) || !is_name(functions.as_str()) {
-        return Ok(None);
+    let mut copies = Items::new(alloc);
+    for word in words {
+        copies.push(Word::copy(alloc, word)?)?;
     }
-    let patterns = copy(alloc, patterns)?;
-    let functions = copy(alloc, functions)?;
-    Ok(Some(Command::Simplify(patterns, functions)))
+    Ok(copies)
 }
 
-/// The words behind `check`.
-fn check(alloc: Global, words: &[String]) -> Result<Option<Command>, OutOfMemory>
-    ensures { IfOk result (λ command. spelled command ≡ check_of (map string_bytes words.now)) }
+/// The positional words, and the options behind them.
+pub fn cut(words: &[String]) -> (&[String], &[String])
+    ensures positional { map string_bytes result.0.now ≡ positional (map string_bytes words.now) }
+    ensures options { map string_bytes result.1.now ≡ option_words (map string_bytes words.now) }
 {
-    let [functions] = words else {
-        return Ok(None);
-    };
-    if !is_name(functions.as_str()) {
-        return Ok(None);
-    }
-    Ok(Some(Command::Check(copy(alloc, functions)?)))
+    words.split_at(first_option(words))
 }
 
-/// The words behind `run`.
-fn run(alloc: Global, words: &[String]) -> Result<Option<Command>, OutOfMemory>
-    ensures { IfOk result (λ command. spelled command ≡ run_of (map string_bytes words.now)) }
+/// How many words stand before the first option.
+fn first_option(words: &[String]) -> usize
+    ensures first { result ≡ first_option (map string_bytes words.now) }
+    ensures within { result ≤ length words.now }
 {
-    let [functions, name, rest @ ..] = words else {
-        return Ok(None);
-    };
-    if !is_name(functions.as_str()) || !is_name(name.as_str()) {
-        return Ok(None);
-    }
-    let Some((values, fuel)) = values(alloc, rest)? else {
-        return Ok(None);
-    };
-    let functions = copy(alloc, functions)?;
-    let name = copy(alloc, name)?;
-    Ok(Some(Command::Run(functions, name, values, fuel)))
-}
-
-/// Values, and behind them the option that says the fuel.
-fn values(alloc: Global, words: &[String]) -> Result<Option<(Vec<String>, u32)>, OutOfMemory>
-    ensures { IfOk result (λ tail. tail_of tail ≡ values_of (map string_bytes words.now)) }
-{
-    let mut values = Vec::new(alloc);
-    let mut rest = words;
-    while let [word, after @ ..] = rest {
-        if is_fuel(word) {
-            return Ok(with_fuel(values, after));
+    let mut before = 0;
+    for word in words {
+        if is_option(word) {
+            return before;
         }
-        if !is_value(word) {
-            return Ok(None);
-        }
-        values.push(copy(alloc, word)?)?;
-        rest = after;
+        before += 1;
     }
-    Ok(Some((values, DEFAULT_FUEL)))
+    before
 }
 
-/// The values with the fuel that stands behind `--fuel`.
-fn with_fuel(values: Vec<String>, words: &[String]) -> Option<(Vec<String>, u32)>
-    ensures { tail_of result ≡ option_map (λ fuel. (map string_bytes values.items, fuel)) (fuel_of (map string_bytes words.now)) }
+/// Whether the word is an option.
+fn is_option(word: &String) -> bool
+    ensures { result ≡ is_option (string_bytes word.now) }
 {
-    let [number] = words else {
-        return None;
-    };
-    let fuel = number_below(FUELS, number.as_bytes())?;
-    Some((values, fuel))
+    match word.as_bytes() {
+        [first, second, ..] => *first == b'-' && *second == b'-',
+        _ => false,
+    }
 }
 
-/// Whether the bytes are digits without a leading zero, 39 at most.
-fn is_size(digits: &[u8]) -> bool
-    ensures { result ≡ is_size digits.now }
-{
-    is_number_text(digits) && digits.len() <= 39
-}
-
-/// Whether the word is the option that says the fuel.
-fn is_fuel(word: &String) -> bool
-    ensures { result ≡ bytes_eq (string_bytes word.now) (codes "--fuel") }
-{
-    word.as_str() == "--fuel"
-}
-
-/// Whether the word is a value.
-fn is_value(word: &String) -> bool
-    ensures { result ≡ is_value (string_bytes word.now) }
+/// Whether a positional word may name a file or a function.
+pub fn is_name(word: &String) -> bool
+    ensures { result ≡ is_name (string_bytes word.now) }
 {
     match word.as_bytes() {
         [] => false,
-        [b'-', rest @ ..] => is_size(rest) && rest != b"0".as_slice(),
-        bytes => is_size(bytes),
-    }
-}
-
-/// An equal word.
-fn copy(alloc: Global, word: &String) -> Result<String, OutOfMemory>
-    ensures { IfOk result (λ text. string_bytes text ≡ string_bytes word.now) }
-{
-    Ok(String::from_str(alloc, word.as_str())?)
-}
-
-/// Whether a word may name a file or a function: it isn't empty, and doesn't begin as an option does.
-fn is_name(word: &str) -> bool
-    ensures { result ≡ is_positional word.now }
-{
-    match word.as_bytes() {
-        [] => false,
-        [_] => true,
-        [first, second, ..] => *first != b'-' || *second != b'-',
+        [_, ..] => true,
     }
 }

@@ -4,7 +4,7 @@ use Rattle.std.proofs.Math.Seq.{take-add}
 use Rattle.std.proofs.lemmas.List.{take_all}
 use Rattle.pm_io.specs.Taking.{followed_by}
 
-pub followed_by-append : (taken : Option (List ℕ)) (xs ys : List ℕ) → followed_by (followed_by taken xs) ys ≡ followed_by taken (xs ++ ys)
+pub followed_by-append : {X : Type 0} (taken : Option (List X)) (xs ys : List X) → followed_by (followed_by taken xs) ys ≡ followed_by taken (xs ++ ys)
 followed_by-append None xs ys = refl
 followed_by-append (Some bytes) xs ys = ap Some (append_assoc bytes xs ys)
 

@@ -2,7 +2,9 @@ pub mod BoundedSink
 pub mod Causes
 pub mod FaultTexts
 pub mod FileState
+pub mod InputState
 pub mod NamedFiles
 pub mod Reading
+pub mod SinkState
 pub mod SureInputs
 pub mod Taking

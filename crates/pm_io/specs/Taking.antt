@@ -1,9 +1,9 @@
 -- What the calls on sinks take, where the sink tells the bytes that it took.
 use Rattle.std.specs.Prelude.{◌≡◌, ℕ, ◌<◌, ◌≤◌, List, ◌++◌, length, take, Option, Some, option_map, Result, Ok, Err, ⊤}
 
--- what was taken, and then more
-abbrev pub followed_by : Option (List ℕ) → List ℕ → Option (List ℕ)
-followed_by taken more = option_map (λ bytes. bytes ++ more) taken
+-- what was there, where that is told, and then more
+abbrev pub followed_by : {X : Type 0} → Option (List X) → List X → Option (List X)
+followed_by before more = option_map (λ some. some ++ more) before
 
 -- a write takes a front of the piece, of the length that it answers, and nothing where it fails
 abbrev pub Takes : {E : Type 0} → Option (List ℕ) → Option (List ℕ) → List ℕ → Result ℕ E → Type 0

@@ -1,4 +1,4 @@
-// What reading and writing may answer in place of a result.
+//! What reading and writing may answer in place of a result.
 ghost use Rattle.std.specs.Prelude.{◌≡◌, Some, codes};
 ghost use Rattle.pm_io.specs.FaultTexts.{fault_text};
 ghost use Rattle.pm_io.specs.declared.faults.ReadFault.TheVariants.{Memory, Read};

@@ -1,4 +1,4 @@
-// Files of the system.
+//! Files of the system.
 ghost use Rattle.std.specs.Prelude.{◌≡◌, ◌≤◌, [], true, false, None, length, IfOk};
 ghost use Rattle.pm_io.specs.Causes.{HasCause, count_after};
 ghost use Rattle.pm_io.specs.Reading.{is_begun_by};
@@ -41,13 +41,7 @@ impl<'r, R: Files> FileInputs<'r, R> {
 }
 
 impl<R: Files> Inputs for FileInputs<'_, R> {
-    ghost holds = { λ _. None };
-
-    ghost begun = { λ inputs. inputs.begun };
-
-    ghost left = { λ _. [] };
-
-    ghost faults = { λ inputs. inputs.faults };
+    ghost state = { λ inputs. record { holds = None; asked = None; begun = inputs.begun; left = []; faults = inputs.faults } };
 
     // The runtime's word for a file that is missing is the kind `NotFound`.
     fn start(&mut self, name: &str) -> Result<bool, Failed>

@@ -1,44 +1,39 @@
-// Inputs that are read by name.
-ghost use Rattle.std.specs.Prelude.{◌≡◌, ℕ, ◌≤◌, Bool, true, List, Option, length, IfOk, IfSome, IsErrOf};
+//! Inputs that are read by name.
+ghost use Rattle.std.specs.Prelude.{◌≡◌, ◌∷◌, [], ◌≤◌, true, length, IfOk, IfSome, IsErrOf};
 ghost use Rattle.pm_io.specs.Causes.{HasCause, Rose};
+ghost use Rattle.pm_io.specs.InputState.{InputState};
 ghost use Rattle.pm_io.specs.Reading.{is_begun_by, Starts, Reads, ReadsWhole, LeavesBegun};
+ghost use Rattle.pm_io.specs.Taking.{followed_by};
 
 use crate::faults::{Failed, ReadFault};
 use std::alloc::Global;
 
 /// Files that are read by name, one at a time.
 pub trait Inputs {
-    /// The bytes that each name holds, or none where there is no such file; `None` where that isn't told.
-    ghost holds: { Self → Option (List ℕ → Option (List ℕ)) };
-
-    /// Whether a file is begun.
-    ghost begun: { Self → Bool };
-
-    /// The bytes of the begun file that are left. It says something only where `holds` is told and a
-    /// file is begun.
-    ghost left: { Self → List ℕ };
-
-    /// How often the inputs failed, counted up to 2^64 - 1.
-    ghost faults: { Self → ℕ };
+    /// What contracts see: the files where they are told, the names asked for where they are told, what is left of the
+    /// begun file, and a count of faults.
+    ghost state: { Self → InputState };
 
     /// Begins the file of this name at its first byte, and answers true; or answers that there is none.
     /// After false and after `Failed` no file is begun.
     fn start(&mut self, name: &str) -> Result<bool, Failed>
-        ensures begun { begun self.new ≡ is_begun_by result }
-        ensures holds { holds self.new ≡ holds self.old }
-        ensures cause { HasCause (faults self.old) (faults self.new) result }
-        ensures told { IfSome (holds self.old) (λ held. Starts (held name.now) (left self.new) result) };
+        ensures begun { (state self.new).begun ≡ is_begun_by result }
+        ensures asked { (state self.new).asked ≡ followed_by (state self.old).asked (name.now ∷ []) }
+        ensures holds { (state self.new).holds ≡ (state self.old).holds }
+        ensures cause { HasCause (state self.old).faults (state self.new).faults result }
+        ensures told { IfSome (state self.old).holds (λ held. Starts (held name.now) (state self.new).left result) };
 
     /// Fills a front of `buffer` with the next bytes of the begun file, and answers its length. The
     /// rest of `buffer` may change. 0 says that the file ends here, where `buffer` isn't empty. After
     /// `Failed` the place in the file is as before.
     fn read(&mut self, buffer: &mut [u8]) -> Result<usize, Failed>
-        requires { begun self.old ≡ true }
+        requires { (state self.old).begun ≡ true }
         ensures bound { IfOk result (λ count. count ≤ length buffer.new) }
-        ensures begun { begun self.new ≡ true }
-        ensures holds { holds self.new ≡ holds self.old }
-        ensures cause { HasCause (faults self.old) (faults self.new) result }
-        ensures told { IfSome (holds self.old) (λ _. Reads (left self.old) (left self.new) buffer.new result) };
+        ensures begun { (state self.new).begun ≡ true }
+        ensures asked { (state self.new).asked ≡ (state self.old).asked }
+        ensures holds { (state self.new).holds ≡ (state self.old).holds }
+        ensures cause { HasCause (state self.old).faults (state self.new).faults result }
+        ensures told { IfSome (state self.old).holds (λ _. Reads (state self.old).left (state self.new).left buffer.new result) };
 }
 
 /// How many bytes `read_all` asks for at once.
@@ -54,14 +49,17 @@ pub fn read_all<I: Inputs>(
     name: &str,
     limit: usize,
 ) -> Result<Vec<u8>, ReadFault>
-    ensures told { IfSome (I.holds inputs.old) (λ held. ReadsWhole (held name.now) limit (I.left inputs.new) result) }
+    ensures told { IfSome (I.state inputs.old).holds (λ held. ReadsWhole (held name.now) limit (I.state inputs.new).left result) }
     ensures within { IfOk result (λ bytes. length bytes.items ≤ limit) }
-    ensures begun { LeavesBegun (I.begun inputs.new) result }
-    ensures holds { I.holds inputs.new ≡ I.holds inputs.old }
+    ensures begun { LeavesBegun (I.state inputs.new).begun result }
+    ensures holds { (I.state inputs.new).holds ≡ (I.state inputs.old).holds }
+
+    // This name alone is asked for.
+    ensures asked { (I.state inputs.new).asked ≡ followed_by (I.state inputs.old).asked (name.now ∷ []) }
 
     // The inputs' count never falls, and `Read` comes only where it rose.
-    ensures later { I.faults inputs.old ≤ I.faults inputs.new }
-    ensures rose { IsErrOf result ReadFault.Read → Rose (I.faults inputs.old) (I.faults inputs.new) }
+    ensures later { (I.state inputs.old).faults ≤ (I.state inputs.new).faults }
+    ensures rose { IsErrOf result ReadFault.Read → Rose (I.state inputs.old).faults (I.state inputs.new).faults }
 {
     if !inputs.start(name)? {
         return Err(ReadFault::Missing);

@@ -1,4 +1,4 @@
-// A writer of the system as a sink.
+//! A writer of the system as a sink.
 ghost use Rattle.std.specs.Prelude.{◌≡◌, ◌<◌, ◌≤◌, None, length, IfOk};
 ghost use Rattle.pm_io.specs.Causes.{HasCause, count_after};
 
@@ -32,9 +32,7 @@ impl<W> StdSink<W> {
 }
 
 impl<W: Write + Drop> Sink for StdSink<W> {
-    ghost taken = { λ _. None };
-
-    ghost faults = { λ faults. faults };
+    ghost state = { λ faults. record { taken = None; room = None; faults = faults } };
 
     // A writer that takes nothing has failed, and so has one that doesn't flush.
     fn write(&mut self, bytes: &[u8]) -> Result<usize, Failed>

@@ -1,4 +1,4 @@
-// Files in memory that are always there and never fail.
+//! Files in memory that are always there and never fail.
 ghost use Rattle.std.specs.Prelude.{◌≡◌, ◌<◌, min, [], None, Some, IfSome, is_some, unwrap_or, length, take, position, bytes_eq, string_bytes};
 ghost use Rattle.pm_io.specs.NamedFiles.{files_of, file_named};
 
@@ -41,7 +41,7 @@ impl SureInputs {
     }
 }
 
-// The place of the first file of that name.
+/// The place of the first file of that name.
 fn place_of(files: &[(String, Vec<u8>)], name: &str) -> Option<usize>
     ensures within { IfSome result (λ place. place < length files.now) }
     ensures place { result ≡ position (λ file. bytes_eq (string_bytes file.0) name.now) files.now }
@@ -49,7 +49,7 @@ fn place_of(files: &[(String, Vec<u8>)], name: &str) -> Option<usize>
     files.iter().position(|file| file.0.as_str() == name)
 }
 
-// Copies a front of `bytes` to the front of `buffer`, as long as both allow.
+/// Copies a front of `bytes` to the front of `buffer`, as long as both allow.
 fn copy_front(bytes: &[u8], buffer: &mut [u8]) -> usize
     ensures len { result ≡ min (length buffer.old) (length bytes.now) }
     ensures front { take result buffer.new ≡ take result bytes.now }
@@ -60,13 +60,13 @@ fn copy_front(bytes: &[u8], buffer: &mut [u8]) -> usize
 }
 
 impl Inputs for SureInputs {
-    ghost holds = { λ inputs. Some (file_named inputs.files) };
-
-    ghost begun = { λ inputs. is_some inputs.left };
-
-    ghost left = { λ inputs. unwrap_or inputs.left [] };
-
-    ghost faults = { λ _. 0 };
+    ghost state = { λ inputs. record {
+      holds = Some (file_named inputs.files);
+      asked = None;
+      begun = is_some inputs.left;
+      left = unwrap_or inputs.left [];
+      faults = 0;
+    } };
 
     fn start(&mut self, name: &str) -> Result<bool, Failed> {
         match place_of(&self.files, name) {

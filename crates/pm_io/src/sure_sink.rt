@@ -1,4 +1,4 @@
-// A sink in memory.
+//! A sink in memory.
 ghost use Rattle.std.specs.Prelude.{◌≡◌, ℕ, [], ◌<◌, ◌≤◌, Some, length, IfOk};
 ghost use Rattle.pm_io.specs.BoundedSink.{TakesWhatFits};
 ghost use Rattle.pm_io.specs.Causes.{HasCause};
@@ -51,11 +51,7 @@ impl SureSink {
 }
 
 impl Sink for SureSink {
-    ghost taken = { λ sink. Some sink.taken };
-
-    ghost room = { λ sink. Some sink.room };
-
-    ghost faults = { λ sink. sink.faults };
+    ghost state = { λ sink. record { taken = Some sink.taken; room = Some sink.room; faults = sink.faults } };
 
     fn write(&mut self, bytes: &[u8]) -> Result<usize, Failed>
         ensures fits { TakesWhatFits self.old self.new bytes.now result }

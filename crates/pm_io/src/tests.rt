@@ -1,4 +1,4 @@
-// Values from outside, and the edge to the system.
+//! Values from outside, and the edge to the system.
 ghost use Rattle.std.specs.Prelude.{◌≡◌, ◌+◌, ◌≤◌, ◌++◌, Some, length, IfOk, IsOk, IsErrOf};
 ghost use Rattle.pm_io.specs.NamedFiles.{file_named};
 
@@ -8,7 +8,7 @@ use std::io::Write;
 use std::test::Fail;
 use std::{fs, io};
 
-// Over sure inputs the answer is the file, where there is memory and it isn't too long.
+/// Over sure inputs the answer is the file, where there is memory and it isn't too long.
 fn read_sure(
     alloc: Global,
     inputs: &mut SureInputs,
@@ -21,7 +21,7 @@ fn read_sure(
     read_all(alloc, inputs, name, limit)
 }
 
-// A sink with room for the text takes it.
+/// A sink with room for the text takes it.
 fn write_sure(sink: &mut SureSink, text: &[u8]) -> Result<(), Failed>
     requires { length sink.old.taken + length text.now ≤ sink.old.room }
     ensures ok { IsOk result }
@@ -86,7 +86,23 @@ fn files_of_the_system_are_read(rt: HostRuntime) -> Result<(), Fail> {
     Ok(())
 }
 
-// Takes three bytes at once, keeps the first six, and then fails.
+#[test]
+fn files_of_several_pieces_are_read(rt: HostRuntime) -> Result<(), Fail> {
+    let mut want = Vec::new(rt.alloc());
+    for at in 0..40_000u32 {
+        want.push((at % 251) as u8)?;
+    }
+    fs::write(&rt, "pm_io_long_test.txt", want.as_slice())?;
+    let mut inputs = FileInputs::new(&rt);
+    let bytes = read_all(rt.alloc(), &mut inputs, "pm_io_long_test.txt", 40_000)?;
+    assert_eq!(rt; bytes.as_slice(), want.as_slice());
+    let fault = read_all(rt.alloc(), &mut inputs, "pm_io_long_test.txt", 39_999).err();
+    assert_eq!(rt; fault, Some(ReadFault::TooLong));
+    fs::remove_file(&rt, "pm_io_long_test.txt")?;
+    Ok(())
+}
+
+/// Takes three bytes at once, keeps the first six, and then fails.
 #[derive(Drop)]
 struct Slow<'a> {
     kept: &'a mut Vec<u8>,
@@ -120,5 +136,36 @@ fn a_writer_takes_bytes_until_it_fails(rt: HostRuntime) -> Result<(), Fail> {
         Err(Failed)
     );
     assert_eq!(rt; kept.as_slice(), b"helloabc".as_slice());
+    Ok(())
+}
+
+/// Keeps all bytes, 1,000 at once.
+#[derive(Drop)]
+struct Wide<'a> {
+    kept: &'a mut Vec<u8>,
+}
+
+impl Write for Wide<'_> {
+    fn write(&mut self, bytes: &[u8]) -> io::Result<usize> {
+        let count = bytes.len().min(1000);
+        self.kept.extend_from_slice(&bytes[..count])?;
+        Ok(count)
+    }
+
+    fn flush(&mut self) -> io::Result<()> {
+        Ok(())
+    }
+}
+
+#[test]
+fn a_long_text_is_written_whole(rt: HostRuntime) -> Result<(), Fail> {
+    let mut text = Vec::new(rt.alloc());
+    for at in 0..20_000u32 {
+        text.push((at % 251) as u8)?;
+    }
+    let mut kept = Vec::new(rt.alloc());
+    let sink = &mut StdSink::new(Wide { kept: &mut kept });
+    assert_eq!(rt; write_all(sink, text.as_slice()), Ok(()));
+    assert_eq!(rt; kept.as_slice(), text.as_slice());
     Ok(())
 }

@@ -1,8 +1,8 @@
-use Rattle.match_top.proofs.AnswerLemmas.{nothing_read}
+use Rattle.match_top.proofs.GivenLemmas.{no_memory}
 use Rattle.match_top.proofs.program.answer.Goals as goal
 
-pub returns-in-Ok-clause-answer : goal.returns-in-Ok-clause-answer
-returns-in-Ok-clause-answer g c = rw (← c.in-Ok.ensures) c.perform.ensures.answer
+pub returns-in-Ok-clause-answered : goal.returns-in-Ok-clause-answered
+returns-in-Ok-clause-answered g c = rw (← c.in-Ok.ensures) c.answer.ensures.answered
 
-pub returns-in-Err-clause-answer : goal.returns-in-Err-clause-answer
-returns-in-Err-clause-answer g c = nothing_read _ _ _ _
+pub returns-in-Err-clause-answered : goal.returns-in-Err-clause-answered
+returns-in-Err-clause-answered g c = no_memory _ _ _

@@ -1,0 +1,68 @@
+-- The files that a command needs, by kind: a table with a column for each thing that reading a file goes by.
+use Rattle.std.specs.Prelude.{◌≡◌, ℕ, Option, Some, None, List, codes}
+use Rattle.gim_ast.specs.declared.function.Function.{Function}
+use Rattle.first_patterns.specs.declared.row.Row.{Row}
+use Rattle.first_patterns.specs.FirstForm.{SpellsFile}
+use Rattle.first_gimple.specs.Meaning.{IsFirstForm}
+use Rattle.match_top.specs.Functions as functions
+use Rattle.match_top.specs.Refusals.{fault_text}
+use Rattle.match_top.specs.declared.needs.Kind.{Kind}
+use Rattle.match_top.specs.declared.needs.Kind.TheVariants.{Patterns, FirstForm, Functions}
+use Rattle.match_top.specs.declared.patterns.PatternFile.{PatternFile}
+use Rattle.match_top.specs.declared.status.Cause.{Cause}
+use Rattle.match_top.specs.declared.status.Cause.TheVariants.{BadPatterns, BadFunctions}
+
+-- a file: its kind and its name
+pub record Need : Type 0 where
+  pub kind : Kind
+  pub name : List ℕ
+
+-- ---- how each kind is refused
+
+abbrev pub cause_of : Kind → Cause
+cause_of Patterns = BadPatterns
+cause_of FirstForm = BadFunctions
+cause_of Functions = BadFunctions
+
+-- what the lines of refusals begin with
+abbrev pub head_of : Kind → List ℕ
+head_of Patterns = codes "patterns"
+head_of FirstForm = codes "gimple"
+head_of Functions = codes "gimple"
+
+-- the greatest length, and the word for a file with more bytes
+abbrev pub limit_of : Kind → ℕ
+limit_of Patterns = 4194304
+limit_of FirstForm = 16777216
+limit_of Functions = 16777216
+
+abbrev pub too_long_word : Kind → List ℕ
+too_long_word Patterns = codes "TooLong"
+too_long_word FirstForm = codes "TooLarge"
+too_long_word Functions = codes "TooLarge"
+
+abbrev pub too_long_text : Kind → List ℕ
+too_long_text kind = fault_text (head_of kind) (Some (1, 1)) (too_long_word kind) None
+
+-- ---- what the bytes of each kind stand for
+
+-- a pattern file, a function, functions
+abbrev pub Value : Kind → Type 0
+Value Patterns = PatternFile
+Value FirstForm = Function
+Value Functions = List Function
+
+abbrev pub StandsFor : (kind : Kind) → List ℕ → Value kind → Type 0
+StandsFor Patterns source file = (file.source ≡ source) × SpellsFile file.rows source
+StandsFor FirstForm source f = IsFirstForm source f
+StandsFor Functions source fs = functions.IsAccepted source fs
+
+-- a file that isn't of the first form
+abbrev pub not_yet_text : Kind → List ℕ
+not_yet_text kind = fault_text (head_of kind) None (codes "NotYet") None
+
+-- the bytes stand for nothing, and this is the line that says why
+abbrev pub IsRefusedWith : Kind → List ℕ → List ℕ → Type 0
+IsRefusedWith Patterns source text = ((rows : List Row) → ¬ SpellsFile rows source) × (text ≡ not_yet_text Patterns)
+IsRefusedWith FirstForm source text = ((f : Function) → ¬ IsFirstForm source f) × (text ≡ not_yet_text FirstForm)
+IsRefusedWith Functions source text = functions.IsRefusedWith source text

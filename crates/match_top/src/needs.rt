@@ -1,0 +1,59 @@
+//! The kinds of file that commands need: a table by kind.
+ghost use Rattle.std.specs.Prelude.{◌≡◌, ◌<◌, ◌^◌};
+ghost use Rattle.match_top.specs.Needs.{cause_of, head_of, limit_of, too_long_word};
+
+use crate::status::Cause;
+
+/// A kind of file.
+#[derive(Clone, Copy, Debug, PartialEq, Eq)]
+pub enum Kind {
+    /// A pattern file of the first form.
+    Patterns,
+    /// A GIMPLE file of the first form.
+    FirstForm,
+    /// A GIMPLE file.
+    Functions,
+}
+
+impl Kind {
+    /// Why a command is refused for such a file.
+    pub fn cause(self) -> Cause
+        ensures { result ≡ cause_of self }
+    {
+        match self {
+            Kind::Patterns => Cause::BadPatterns,
+            Kind::FirstForm | Kind::Functions => Cause::BadFunctions,
+        }
+    }
+
+    /// What the lines of its refusals begin with.
+    pub fn head(self) -> &'static str
+        ensures { result.now ≡ head_of self }
+    {
+        match self {
+            Kind::Patterns => "patterns",
+            Kind::FirstForm | Kind::Functions => "gimple",
+        }
+    }
+
+    /// Its greatest length.
+    pub fn limit(self) -> usize
+        ensures limit { result ≡ limit_of self }
+        ensures short { result < 2 ^ 31 }
+    {
+        match self {
+            Kind::Patterns => 4_194_304,
+            Kind::FirstForm | Kind::Functions => 16_777_216,
+        }
+    }
+
+    /// The fault of a longer one.
+    pub fn too_long(self) -> &'static str
+        ensures { result.now ≡ too_long_word self }
+    {
+        match self {
+            Kind::Patterns => "TooLong",
+            Kind::FirstForm | Kind::Functions => "TooLarge",
+        }
+    }
+}
