@@ -12,9 +12,8 @@ mod operands;
 mod rows;
 mod uses;
 
-pub use identifiers::{is_anonymous, is_block_word};
-
 use crate::Function;
+pub use identifiers::{is_anonymous, is_block_word};
 
 impl Function {
     /// Whether the function keeps the rules of a GIMPLE file, but for readability and limits. Takes no memory.

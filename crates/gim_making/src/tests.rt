@@ -1,6 +1,5 @@
 //! Types and functions of trees over one small text. The trees are written out; their places are found in the text.
 
-use pm_places::Span;
 use super::*;
 use gim_ast::{End, Rhs};
 use gim_text::{
@@ -8,6 +7,7 @@ use gim_text::{
     OperandText, RightForm, RightText,
 };
 use pm_ops::Code;
+use pm_places::Span;
 use pm_wide::{IntType, Operand, Wide};
 use std::process::Abort;
 use std::test::Fail;

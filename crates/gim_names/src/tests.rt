@@ -1,4 +1,3 @@
-use pm_places::Span;
 use super::*;
 use gim_text::{
     ArgText, BlockText, DeclText, EndText, ItemText, LiteralText, LiteralType, OperandText,
@@ -6,6 +5,7 @@ use gim_text::{
 };
 use pm_items::Items;
 use pm_ops::{Code, OutOfMemory};
+use pm_places::Span;
 use pm_wide::IntType;
 use std::mem;
 
