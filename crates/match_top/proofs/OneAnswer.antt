@@ -13,8 +13,8 @@ use Rattle.first_gimple.proofs.Judging.{one_for_text}
 use Rattle.gim_reader.specs.Files.{IsFile}
 use Rattle.gim_reader.proofs.OneAnswer.{one_list, no_fault, one_fault}
 use Rattle.gim_round_trip.specs.ReadBack.{MayBeReadBack}
-use Rattle.gim_round_trip.proofs.ReadFiles.{read_may_be_printed}
-use Rattle.gim_round_trip.proofs.RoundTrip.{read_back}
+use Rattle.gim_round_trip.proofs.ReadFunctions.{read_may_be_printed}
+use Rattle.gim_round_trip.proofs.PrintedFunctions.{read_back}
 use Rattle.match_top.specs.Answer.{Answer, status_of, out_of, refusal, OrMemory, IsOrMemory}
 use Rattle.match_top.specs.Check.{check_needs, checked}
 use Rattle.match_top.specs.Functions.{IsAccepted, IsFirstInvalid, IsRefusedWith, by_fault, by_unreadable, gimple_fault_text, unreadable_text}
