@@ -5,7 +5,7 @@
 
 pub mod laws;
 
-ghost use Rattle.std.specs.Prelude.{◌≡◌, ◌≤◌, List, IfOk, IfErr, OnOk, MatchResult, None, length};
+ghost use Rattle.std.specs.Prelude.{◌≡◌, ◌⊎◌, ◌+◌, ◌≤◌, List, IfOk, IfErr, OnOk, MatchResult, None, length};
 ghost use Rattle.std.specs.List.{AllByRecursion, AllZip};
 ghost use Rattle.gim_ast.specs.declared.function.Function.{Function};
 ghost use Rattle.gim_ast.specs.WellFormed.{IsWellFormed};
@@ -35,6 +35,8 @@ pub fn read(alloc: Global, source: &[u8]) -> Result<Vec<Function>, GimpleFault>
     ensures only { (fs : List Function) → IsFile source.now fs → MatchResult result (λ gs. gs.items ≡ fs) (λ fault. fault.kind ≡ Memory) }
     // A refusal is for the first fault, or for want of memory.
     ensures refused { IfErr result (IsRefusal source.now) }
+    // The fault stands in the source, unless memory runs out.
+    ensures within { IfErr result (λ fault. (fault.kind ≡ Memory) ⊎ (fault.at + fault.len ≤ length source.now)) }
     // Each function is well formed.
     ensures well_formed { IfOk result (λ fs. AllByRecursion IsWellFormed fs.items) }
 {
