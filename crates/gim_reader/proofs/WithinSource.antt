@@ -36,7 +36,7 @@ use Rattle.gim_lexer.proofs.Placing.{tokens_stand}
 use Rattle.gim_syntax.specs.SyntaxFaults.{last_two_after, last_two, last_after, outside_after, outside_parentheses, depth_after, called, any_word, gimple_of, is_open, closed_options, is_in_block, or_place, unsupported, named_fault, syntax_fault}
 use Rattle.gim_names.specs.NamesFault.{first_by, kind_of_occurrence, occurrence_fault, occurrences_fault, second_function, function_fault, names_fault, function_text}
 use Rattle.gim_shape.specs.Blocks.{is_among, number_of, named_at, jumps_of_end, jumps_of, numbers_of, predecessors}
-use Rattle.gim_shape.specs.Limits.{is_too_large, large_faults, function_limit_faults, limits_fault}
+use Rattle.gim_limits.specs.Limits.{is_too_large, large_faults, function_limit_faults, limits_fault}
 use Rattle.gim_shape.specs.Phis.{args_fit, phi_fault, item_faults}
 use Rattle.gim_shape.specs.Shape.{end_fault, jump_fault, faults_among, body_faults, function_faults, shape_fault}
 use Rattle.gim_making.specs.Declarations.{Declarations, declarations_of, type_of_name}

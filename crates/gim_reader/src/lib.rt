@@ -16,9 +16,10 @@ ghost use Rattle.gim_reader.specs.Files.{IsFile, IsRefusal, FromTokens, IsTokens
 
 use gim_ast::Function;
 use gim_lexer::lex;
+use gim_limits::check_limits;
 use gim_making::{check_types, make};
 use gim_names::check_names;
-use gim_shape::{check_limits, check_shape};
+use gim_shape::check_shape;
 use gim_syntax::read_syntax;
 use gim_text::{FunctionText, Token};
 pub use gim_text::{GimpleFault, GimpleKind};

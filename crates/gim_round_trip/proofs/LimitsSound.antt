@@ -18,12 +18,11 @@ use Rattle.gim_text.specs.Texts.{text_of}
 use Rattle.gim_shape.specs.declared.places.Place.{Place}
 use Rattle.gim_shape.specs.declared.places.Place.TheVariants.{Name, Block, Jump}
 use Rattle.gim_shape.specs.Blocks.{is_among}
-use Rattle.gim_shape.specs.Limits.{is_above, blocks_among, version_at, versions_of, different, is_name_too_many, is_too_large, place_faults, function_limit_faults, limits_fault}
+use Rattle.gim_limits.specs.Limits.{is_above, blocks_among, version_at, versions_of, different, is_name_too_many, is_too_large, place_faults, function_limit_faults, limits_fault}
 use Rattle.gim_shape.specs.Places.{places_of}
 use Rattle.gim_making.specs.Names.{version_of}
-use Rattle.gim_making.proofs.Membership.{Has, has_map, any_from_has, all_from_has}
+use Rattle.gim_making.proofs.Membership.{Has, has_map, any_from_has, all_from_has, each_has}
 use Rattle.gim_making.proofs.PartLemmas.{text_itself}
-use Rattle.gim_making.proofs.SmallLemmas.{each_has}
 use Rattle.gim_round_trip.specs.ReadBack.{IsWithinLimits}
 use Rattle.gim_round_trip.proofs.Different.{few_different}
 use Rattle.gim_round_trip.proofs.NoFault.{none_of_each}

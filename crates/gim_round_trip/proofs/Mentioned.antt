@@ -24,9 +24,8 @@ use Rattle.gim_names.specs.declared.mention.Mention.TheVariants.{Param, Local, B
 use Rattle.gim_names.specs.Mentions.{mentions_of, mention_of_operand}
 use Rattle.gim_names.specs.Parts.{param_text, local_text, assigned_text as text_assigned}
 use Rattle.gim_making.specs.Written.{texts_in}
-use Rattle.gim_making.proofs.Membership.{Has, all_has, any_from_has, from_map, has_flat, from_flat, has_either}
+use Rattle.gim_making.proofs.Membership.{Has, all_has, any_from_has, from_map, has_flat, from_flat, has_either, has_said}
 use Rattle.gim_making.proofs.MentionLemmas.{use_of_mention, operands_are_mentioned}
-use Rattle.gim_making.proofs.PlaceLemmas.{has_said}
 use Rattle.gim_round_trip.specs.ReadBack.{IsWithinLimits}
 use Rattle.gim_round_trip.proofs.Facts.{NameFacts, name_facts, each_operand_holds, operand_row, each_block_fits, phi_row, stmt_row, assigned_is_not_initial}
 use Rattle.gim_round_trip.proofs.Said.{params_said, locals_said, operands_written, assigned_said}

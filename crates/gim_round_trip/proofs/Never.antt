@@ -7,9 +7,8 @@ use Rattle.gim_ast.specs.WellFormed.{same_text, all_distinct}
 use Rattle.gim_names.specs.Parts.{with_some, all_said}
 use Rattle.gim_names.specs.Rules.{stands, differs, has_other_second}
 use Rattle.gim_names.proofs.TableLemmas.{same_text_symm}
-use Rattle.gim_making.proofs.Membership.{Has, none_from_has}
+use Rattle.gim_making.proofs.Membership.{Has, none_from_has, has_said, from_said}
 use Rattle.gim_making.proofs.PartLemmas.{text_itself, same_text_is}
-use Rattle.gim_making.proofs.PlaceLemmas.{has_said, from_said}
 
 -- the rule is broken at no element
 abbrev pub NeverBy : {X : Type 0} → (List X → X → Bool) → List X → List X → Type 0

@@ -40,8 +40,8 @@ use Rattle.gim_text.proofs.NameLemmas.{parts_found}
 use Rattle.gim_shape.specs.declared.places.Place.{Place}
 use Rattle.gim_shape.specs.declared.places.Place.TheVariants as places
 use Rattle.gim_shape.specs.Blocks.{named_at}
-use Rattle.gim_shape.specs.Limits as limit
-use Rattle.gim_shape.specs.Limits.{blocks_among}
+use Rattle.gim_limits.specs.Limits as limit
+use Rattle.gim_limits.specs.Limits.{blocks_among}
 use Rattle.gim_shape.specs.Places.{decl_places, operand_places, right_places, arg_places, item_places, end_places, block_places, places_of}
 use Rattle.gim_making.specs.Names.{version_of}
 use Rattle.gim_making.proofs.Membership.{Has, has_left, has_right, has_either, has_map, has_flat, all_has, any_has}

@@ -16,15 +16,15 @@ use Rattle.gim_text.specs.declared.tree.FunctionText.{FunctionText}
 use Rattle.gim_names.specs.Kept.{KeepsNames}
 use Rattle.gim_names.specs.NamesFault.{function_text}
 use Rattle.gim_names.proofs.Keeping.{each_keeps, functions_differ}
-use Rattle.gim_shape.specs.Kept.{KeepsLimits}
-use Rattle.gim_shape.proofs.LimitsKept.{limits_kept}
+use Rattle.gim_limits.specs.Kept.{KeepsLimits}
+use Rattle.gim_limits.proofs.LimitsKept.{limits_kept}
 use Rattle.gim_making.specs.Declarations.{declarations_of, number_of, number_limit}
 use Rattle.gim_making.specs.Names.{AreNames, version_of, named_rows}
 use Rattle.gim_making.specs.Standing.{StandsFor, made}
 use Rattle.gim_making.specs.Trees.{block_of}
 use Rattle.gim_making.proofs.BoundsHold.{version_digits, row_digits, all_by, few_names}
-use Rattle.gim_making.proofs.Membership.{has_contains, from_map, all_from_has}
-use Rattle.gim_making.proofs.SmallLemmas.{each_has, are_small}
+use Rattle.gim_making.proofs.Membership.{has_contains, from_map, all_from_has, each_has}
+use Rattle.gim_making.proofs.SmallNumbers.{are_small}
 use Rattle.gim_making.proofs.Sound.{sound_files}
 use Rattle.gim_reader.specs.Files.{file_limit, IsFile}
 use Rattle.gim_reader.proofs.ReaderLemmas.{sound}

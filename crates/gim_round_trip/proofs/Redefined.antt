@@ -22,10 +22,9 @@ use Rattle.gim_names.specs.declared.mention.Mention.TheVariants.{Param, Local, B
 use Rattle.gim_names.specs.Mentions.{mentions_of}
 use Rattle.gim_names.specs.Parts.{with_some, all_said, version_in, turned, anonymous_parts, declared_text, block_number, assigned_text as text_assigned, assigned_version, plain_version, default_version, version_base, base_default}
 use Rattle.gim_names.specs.Rules.{stands, is_declared_again, is_assigned_again, has_other_base, has_other_mark, has_other_default, is_repeated, is_marked_otherwise, is_contradicted, is_redefined}
-use Rattle.gim_making.proofs.Membership.{Has, all_has, any_has, any_from_has, none_from_has, from_map, has_flat}
+use Rattle.gim_making.proofs.Membership.{Has, all_has, any_has, any_from_has, none_from_has, from_map, has_flat, from_said}
 use Rattle.gim_making.proofs.NameRowLemmas.{one_of_version}
 use Rattle.gim_making.proofs.PartLemmas.{some_is, same_text_is, text_itself, bare_is_anonymous}
-use Rattle.gim_making.proofs.PlaceLemmas.{from_said}
 use Rattle.gim_round_trip.specs.ReadBack.{IsWithinLimits}
 use Rattle.gim_round_trip.proofs.Facts.{of_names, of_blocks, row_found, name_facts, number_is_small}
 use Rattle.gim_round_trip.proofs.Mentioned.{MentionIs, mention_is, assigned_row}

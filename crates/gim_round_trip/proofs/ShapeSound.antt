@@ -29,8 +29,7 @@ use Rattle.gim_shape.specs.Blocks as shape
 use Rattle.gim_shape.specs.Blocks.{number_of, named_at, jumps_of_end, jumps_of, jumps_to, predecessors}
 use Rattle.gim_shape.specs.Phis.{named_by_args, has_args, is_each_once, args_fit, item_faults}
 use Rattle.gim_shape.specs.Shape.{end_fault, jump_fault, faults_among, body_faults, function_faults, shape_fault}
-use Rattle.gim_making.proofs.Membership.{Has, from_map, has_flat, all_has, all_from_has}
-use Rattle.gim_making.proofs.SmallLemmas.{each_has}
+use Rattle.gim_making.proofs.Membership.{Has, from_map, has_flat, all_has, all_from_has, each_has}
 use Rattle.gim_round_trip.specs.ReadBack.{IsWithinLimits}
 use Rattle.gim_round_trip.proofs.Decimals.{AreSmallNumbers, among_decimals, distinct_decimals, all_among_decimals, images_are_decimals}
 use Rattle.gim_round_trip.proofs.Facts.{number_is_small, predecessor_is_small, target_is_small, phi_block_is_small}

@@ -18,10 +18,10 @@ use Rattle.gim_text.specs.Faults.{fault_at, first_fault}
 use Rattle.gim_text.specs.Occurrences.{place_of, block_at, occurrences_of}
 use Rattle.gim_text.proofs.OccurrenceLemmas.{each_says, none_says, said_at_heads}
 use Rattle.gim_shape.specs.Blocks.{is_among}
-use Rattle.gim_shape.specs.Limits.{digits_at, is_above, is_any_above, blocks_among, version_at, versions_of, different, is_name_too_many, is_block_too_many, is_too_large, large_faults, function_limit_faults, limits_fault}
-use Rattle.gim_shape.specs.Kept.{NumberFits, KeepsLimits}
+use Rattle.gim_limits.specs.Limits.{digits_at, is_above, is_any_above, blocks_among, version_at, versions_of, different, is_name_too_many, is_block_too_many, is_too_large, large_faults, function_limit_faults, limits_fault}
 use Rattle.gim_shape.proofs.TableLemmas.{same_text_symm, same_is}
 use Rattle.gim_shape.proofs.JudgingLemmas.{none_first, none_of_all}
+use Rattle.gim_limits.specs.Kept.{NumberFits, KeepsLimits}
 
 -- ---- different texts, in any order
 
