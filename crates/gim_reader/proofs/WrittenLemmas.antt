@@ -42,7 +42,7 @@ use Rattle.gim_text.specs.Meanings.{same_mark, same_keyword, mark, keyword, iden
 use Rattle.gim_text.specs.Occurrences.{place_of, occurrence_of_parameter, occurrence_of_local, occurrence_of_operand, occurrences_of_argument, occurrences_of_right, occurrences_of_item, occurrences_of_end, occurrences_of_block, occurrences_of, operand_at}
 use Rattle.gim_text.specs.Texts.{text_of, block_digits}
 use Rattle.gim_lexer.specs.Meant.{MeansItsText, AllMeanTheirTexts}
-use Rattle.gim_lexer.specs.Spelled.{StandsIn, AllStandIn, InOrder}
+use Rattle.gim_lexer.specs.Spelled.{AllStandIn, InOrder}
 use Rattle.gim_marks.specs.Readers.{plain_number}
 use Rattle.gim_types.specs.Grammar.{SpellsType, forms}
 use Rattle.gim_statements.specs.Grammar.{◌▸◌, BeginsAt, Signed, SpellsConstant, SpellsOperand, SpellsForm, SpellsRight, SpellsArg, SpellsFurtherArg, SpellsArgs, SpellsItem, SpellsJump, SpellsEnd, SpellsEndIfAny, SpellsBlock}
