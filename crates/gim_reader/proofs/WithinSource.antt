@@ -4,7 +4,6 @@ use Rattle.std.specs.Prelude.{if◌then◌else◌, nat_le}
 use Rattle.std.specs.List.{flat_map, list_all, list_any, AllByRecursion}
 use Rattle.std.specs.Option.{option_map_or}
 use Rattle.std.proofs.lemmas.Bool.{and_parts, leb-true}
-use Rattle.grammar.specs.Whole.{IsFirstFault}
 use Rattle.pm_wide.specs.Types.{Ty}
 use Rattle.gim_ast.specs.WellFormed.{same_text}
 use Rattle.gim_ast.proofs.ReadableLemmas.{all_left, all_right}
@@ -16,7 +15,6 @@ use Rattle.gim_text.specs.declared.token.Mark.TheVariants as marks
 use Rattle.pm_places.specs.declared.span.Span.{Span}
 use Rattle.gim_text.specs.declared.token.Token.{Token}
 use Rattle.gim_text.specs.declared.token.Token.TheVariants as tokens
-use Rattle.gim_text.specs.declared.tree.ArgText.{ArgText}
 use Rattle.gim_text.specs.declared.tree.BlockText.{BlockText}
 use Rattle.gim_text.specs.declared.tree.EndText.{EndText}
 use Rattle.gim_text.specs.declared.tree.EndText.TheVariants.{Goto, If, Return}
@@ -30,23 +28,22 @@ use Rattle.gim_text.specs.declared.occurrence.Occurrence.TheVariants.{Parameter,
 use Rattle.gim_text.specs.Faults.{fault_at}
 use Rattle.pm_places.specs.FirstFaults.{first_fault, or_fault, first_by}
 use Rattle.gim_text.specs.Meanings.{identifier, span_of}
-use Rattle.gim_text.specs.Occurrences.{place_of, occurrence_of_operand, occurrences_of_item, targets_in_end, occurrences_of_end, occurrences_of_block, occurrences_of}
-use Rattle.gim_lexer.specs.Cuts.{AreTokens}
+use Rattle.gim_text.specs.Occurrences.{place_of, occurrence_of_operand, occurrences_of_item, targets_in_end, occurrences_of_end, occurrences_of}
 use Rattle.gim_lexer.proofs.NumberTexts.{tokens_mean}
 use Rattle.gim_lexer.proofs.Cutting.{tokens_stand}
 use Rattle.gim_syntax.specs.SyntaxFaults.{last_two_after, last_two, last_after, outside_after, outside_parentheses, depth_after, called, any_word, gimple_of, is_open, closed_options, is_in_block, or_place, unsupported, named_fault, syntax_fault}
 use Rattle.gim_names.specs.NamesFault.{kind_of_occurrence, occurrence_fault, occurrences_fault, second_function, function_fault, names_fault, function_text}
 use Rattle.gim_shape.specs.Blocks.{is_among, number_of, named_at, jumps_of_end, jumps_of, numbers_of, predecessors}
 use Rattle.gim_limits.specs.Limits.{is_too_large, large_faults, function_limit_faults, limits_fault}
-use Rattle.gim_shape.specs.Phis.{args_fit, phi_fault, item_faults}
+use Rattle.gim_shape.specs.Phis.{args_fit, item_faults}
 use Rattle.gim_shape.specs.Shape.{end_fault, jump_fault, faults_among, body_faults, function_faults, shape_fault}
 use Rattle.gim_making.specs.Declarations.{Declarations, declarations_of, type_of_name}
-use Rattle.gim_making.specs.Types.{start_of, mismatch, place_of_arg, places_of_item, places_of_end, places_of_block, places_of_function, types_fault}
-use Rattle.gim_making.proofs.Membership.{Has, has_left, has_right, has_flat, all_has, each_has}
-use Rattle.gim_making.proofs.Occurring.{in_tree, in_item, target_occurs, argument_occurs}
-use Rattle.gim_reader.specs.Files.{file_limit, rules_fault, IsTokensFault, of_syntax, of_rules, IsFileFault, of_size, of_lexing, of_tokens, IsRefusal, by_memory, by_fault}
+use Rattle.gim_making.specs.Types.{start_of, place_of_arg, places_of_item, places_of_end, places_of_block, places_of_function, types_fault}
+use Rattle.gim_making.proofs.Membership.{Has, has_left, has_right, all_has, each_has}
+use Rattle.gim_making.proofs.Occurring.{in_tree, target_occurs, argument_occurs}
+use Rattle.gim_reader.specs.Files.{rules_fault, of_syntax, of_rules, IsFileFault, of_size, of_lexing, of_tokens, IsRefusal, by_memory, by_fault}
 use Rattle.gim_reader.proofs.ReaderLemmas.{known_trees}
-use Rattle.gim_reader.proofs.WrittenLemmas.{stands_in, occurrence_stands, item_stands, block_stands, IsPlaced, IsSure, AllSure, all_sure, IsKnown}
+use Rattle.gim_reader.proofs.WrittenLemmas.{stands_in, occurrence_stands, item_stands, block_stands, IsPlaced, AllSure, all_sure, IsKnown}
 
 -- ---- faults in a source of this length
 

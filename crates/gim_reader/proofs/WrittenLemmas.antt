@@ -44,7 +44,7 @@ use Rattle.gim_text.specs.Occurrences.{place_of, occurrence_of_parameter, occurr
 use Rattle.gim_text.specs.Texts.{block_digits}
 use Rattle.pm_places.specs.Spans.{text_of}
 use Rattle.gim_lexer.specs.Meant.{MeansItsText, AllMeanTheirTexts}
-use Rattle.gim_lexer.specs.Spelled.{StandsIn, AllStandIn, InOrder}
+use Rattle.gim_lexer.specs.Spelled.{AllStandIn, InOrder}
 use Rattle.gim_words.specs.Tokens.{plain_number}
 use Rattle.gim_words.specs.Types.{SpellsType, forms}
 use Rattle.gim_statements.specs.Grammar.{◌▸◌, BeginsAt, Signed, SpellsConstant, SpellsOperand, SpellsForm, SpellsRight, SpellsArg, SpellsFurtherArg, SpellsArgs, SpellsItem, SpellsJump, SpellsEnd, SpellsEndIfAny, SpellsBlock}
