@@ -1,5 +1,5 @@
 -- No limit is passed by trees that write well-formed functions within the limits.
-use Rattle.std.proofs.Common.{◌≡◌, ℕ, ◌<◌, ◌≤◌, ◌+◌, suc, Bool, true, false, Option, Some, None, List, [], ◌∷◌, map, length, lit≤, refl, sym, ap, ◌∙◌, arith, inl, inr}
+use Rattle.std.proofs.Common.{◌≡◌, ℕ, ◌<◌, ◌≤◌, ◌+◌, suc, Bool, true, false, Option, Some, None, List, [], ◌∷◌, map, length, lit≤, refl, sym, ap, ◌∙◌, arith}
 use Rattle.std.specs.Prelude.{◌==◌, ◌&&◌, ◌||◌, not, is_none, option_map}
 use Rattle.std.specs.List.{AllZip, list_all, filter_map, cons_option}
 use Rattle.std.specs.Fmt.{decimal}
@@ -17,7 +17,7 @@ use Rattle.gim_text.specs.declared.token.Span.{Span}
 use Rattle.gim_text.specs.declared.tree.FunctionText.{FunctionText}
 use Rattle.gim_text.specs.Faults.{first_fault}
 use Rattle.gim_text.specs.Occurrences.{occurrences_of, name_at, block_at}
-use Rattle.gim_text.specs.Texts.{text_of, name_parts}
+use Rattle.gim_text.specs.Texts.{text_of}
 use Rattle.gim_names.specs.Parts.{block_number}
 use Rattle.gim_shape.specs.Blocks.{is_among}
 use Rattle.gim_shape.specs.Limits.{version_of, version_at, digits_at, is_above, is_any_above, blocks_among, versions_of, different, is_name_too_many, is_block_too_many, is_too_large, large_faults, function_limit_faults, limits_fault}

@@ -19,7 +19,7 @@ use Rattle.gim_text.specs.declared.token.Token.{Token}
 use Rattle.gim_text.specs.declared.token.Token.TheVariants as tokens
 use Rattle.gim_text.specs.Texts.{text_of}
 use Rattle.gim_lexer.specs.Numbers.{is_suffix_letter, suffix_kind, number_kind}
-use Rattle.gim_lexer.specs.Separators.{is_space, separator_length}
+use Rattle.gim_lexer.specs.Separators.{separator_length}
 use Rattle.gim_lexer.specs.Tokens.{place, number_at, token_of_text}
 use Rattle.gim_lexer.proofs.LongestMatch.{number_begins}
 use Rattle.gim_lexer.proofs.NumberTexts.{letter_is_no_digit}

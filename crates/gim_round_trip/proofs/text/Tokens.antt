@@ -3,10 +3,7 @@ use Rattle.std.proofs.Common.{◌≡◌, ℕ, ◌^◌, ◌<◌, Bool, true, fals
 use Rattle.std.specs.Fmt.{decimal}
 use Rattle.std.proofs.lemmas.Bool.{false≢true}
 use Rattle.std.proofs.lemmas.List.{append-nil}
-use Rattle.pm_ops.specs.declared.code.Code.{Code}
-use Rattle.pm_ops.specs.Codes.{is_comparison_code}
 use Rattle.gim_ast.specs.Identifiers.{is_word_text, is_number_text, is_identifier}
-use Rattle.gim_ast.specs.Printing.{sign_text}
 use Rattle.gim_ast.proofs.NumberLemmas.{decimal_is_number_text}
 use Rattle.gim_text.specs.declared.token.Span.{Span}
 use Rattle.gim_text.specs.declared.token.Token.{Token}
@@ -23,7 +20,6 @@ use Rattle.gim_lexer.specs.Tokens.{place}
 use Rattle.gim_lexer.specs.Words.{word_token}
 use Rattle.gim_marks.specs.Readers.{plain_number}
 use Rattle.gim_statements.specs.Grammar.{AMark, AKeyword}
-use Rattle.gim_statements.specs.Words.{comparison_code, infix_code}
 use Rattle.gim_syntax.specs.Grammar.{IsSsa}
 use Rattle.gim_round_trip.proofs.text.Prints.{Prints, any_end, word_end, blank_end, seen}
 use Rattle.gim_round_trip.proofs.tree.Writes.{NamesBlock}
