@@ -14,8 +14,8 @@ use Rattle.gim_text.specs.declared.tree.FunctionText.{FunctionText}
 use Rattle.gim_text.specs.Occurrences.{occurrences_of}
 use Rattle.gim_names.specs.Kept.{KeepsNames}
 use Rattle.gim_shape.specs.Blocks.{is_among}
-use Rattle.gim_shape.specs.Kept.{KeepsLimits}
-use Rattle.gim_shape.specs.Limits.{version_at, versions_of, different}
+use Rattle.gim_limits.specs.Kept.{KeepsLimits}
+use Rattle.gim_limits.specs.Limits.{version_at, versions_of, different}
 use Rattle.gim_making.specs.Declarations.{declarations_of, number_of}
 use Rattle.gim_making.specs.Names.{AreNames, version_of, name_place, named_rows}
 use Rattle.gim_making.specs.Standing.{made}

@@ -1,4 +1,3 @@
-pub mod FaultLemmas
 pub mod DeclaredLemmas
 pub mod RowLemmas
 pub mod ListLemmas

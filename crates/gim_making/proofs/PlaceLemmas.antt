@@ -17,32 +17,19 @@ use Rattle.gim_names.specs.Parts.{version_in, turned, anonymous_parts, local_tex
 use Rattle.gim_names.specs.Rules.{has_other_second}
 use Rattle.gim_names.specs.Tables.{have_one_each}
 use Rattle.gim_names.specs.Kept.{KeepsNames, locals_of, params_of, assigned_of, has_base, has_param, is_declared}
+use Rattle.gim_names.proofs.KeptParts.{one_second}
 use Rattle.gim_names.proofs.Saying.{declares}
 use Rattle.gim_making.specs.declared.places.NamePlace.{NamePlace}
 use Rattle.gim_making.specs.Declarations.{declarations_of, type_by_parts, type_of_name, number_of}
 use Rattle.gim_making.specs.Names.{plain, default_at, name_place, names_in, rows_by_parts, rows_of_place, named_rows}
-use Rattle.gim_making.proofs.Membership.{Has, has_flat, from_flat, has_said, from_said, all_has, any_from_has}
+use Rattle.gim_making.proofs.Membership.{Has, has_contains, has_flat, from_flat, has_said, from_said, all_has, any_from_has}
 use Rattle.gim_making.proofs.PartLemmas.{some_is, text_itself, same_text_is, parts_are, anonymous_has_parts, IsSmall, same_number}
 
 -- ---- pairs
 
 -- two pairs of one first part have one second part
-company : (k v w : List ℕ) (b : Bool) → same_text v w ≡ b → (has_other_second k v (k, w) ≡ true → ⊥) → v ≡ w
-company k v w true is apart = same_text_is v w is
-company k v w false is apart = absurd (apart (and_from (same_text k k) (not (same_text v w)) (text_itself k) (ap not is)))
-
-first_pair : (pair : List ℕ × List ℕ) (pairs : List (List ℕ × List ℕ)) (k v w : List ℕ) → not (list_any (has_other_second pair.0 pair.1) pairs) ≡ true → pair ≡ (k, v) → Has pairs (k, w) → v ≡ w
-first_pair pair pairs k v w none same h =
-    company k v w (same_text v w) refl (λ apart.
-    let any : list_any (has_other_second pair.0 pair.1) pairs ≡ true = any_from_has (has_other_second pair.0 pair.1) pairs (k, w) h (ap (λ (p : List ℕ × List ℕ). has_other_second p.0 p.1 (k, w)) same ∙ apart) in
-    false≢true (sym (ap not any) ∙ none))
-
 pub one_each : (pairs : List (List ℕ × List ℕ)) (k v w : List ℕ) → have_one_each pairs ≡ true → Has pairs (k, v) → Has pairs (k, w) → v ≡ w
-one_each [] k v w h a b = absurd a
-one_each (pair ∷ pairs) k v w h (inl a) (inl b) = ap (λ (p : List ℕ × List ℕ). p.1) (sym a ∙ b)
-one_each (pair ∷ pairs) k v w h (inl a) (inr b) = first_pair pair pairs k v w (and_parts (not (list_any (has_other_second pair.0 pair.1) pairs)) (have_one_each pairs) h).0 a b
-one_each (pair ∷ pairs) k v w h (inr a) (inl b) = sym (first_pair pair pairs k w v (and_parts (not (list_any (has_other_second pair.0 pair.1) pairs)) (have_one_each pairs) h).0 b a)
-one_each (pair ∷ pairs) k v w h (inr a) (inr b) = one_each pairs k v w (and_parts (not (list_any (has_other_second pair.0 pair.1) pairs)) (have_one_each pairs) h).1 a b
+one_each pairs k v w h a b = one_second pairs h (k, v) (k, w) (has_contains pairs (k, v) a) (has_contains pairs (k, w) b) refl
 
 -- ---- places
 

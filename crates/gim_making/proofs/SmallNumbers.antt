@@ -12,8 +12,8 @@ use Rattle.gim_text.specs.declared.occurrence.Occurrence.TheVariants.{Parameter,
 use Rattle.gim_text.specs.Occurrences.{name_at, occurrences_of}
 use Rattle.gim_text.specs.Texts.{text_of}
 use Rattle.gim_shape.specs.Blocks.{named_at}
-use Rattle.gim_shape.specs.Kept.{NumberFits, KeepsLimits}
-use Rattle.gim_shape.specs.Limits.{version_of, version_at, digits_at}
+use Rattle.gim_limits.specs.Kept.{NumberFits, KeepsLimits}
+use Rattle.gim_limits.specs.Limits.{version_of, version_at, digits_at}
 use Rattle.gim_making.specs.declared.places.NamePlace.{NamePlace}
 use Rattle.gim_making.specs.Declarations.{number_limit}
 use Rattle.gim_making.specs.Names.{is_default, name_place}

@@ -6,9 +6,10 @@ use Rattle.gim_ast.specs.WellFormed.{IsWellFormed}
 use Rattle.gim_text.specs.declared.tree.FunctionText.{FunctionText}
 use Rattle.gim_text.specs.Faults.{first_fault}
 use Rattle.gim_names.proofs.Keeping.{each_keeps}
-use Rattle.gim_shape.specs.Kept.{BlockHolds, HasShape, KeepsLimits}
+use Rattle.gim_shape.specs.Kept.{BlockHolds, HasShape}
 use Rattle.gim_shape.proofs.ShapeKept.{shape_kept}
-use Rattle.gim_shape.proofs.LimitsKept.{limits_kept}
+use Rattle.gim_limits.specs.Kept.{KeepsLimits}
+use Rattle.gim_limits.proofs.LimitsKept.{limits_kept}
 use Rattle.gim_making.specs.Judged.{IsSound}
 use Rattle.gim_making.specs.Standing.{StandsFor, made}
 use Rattle.gim_making.specs.Types.{places_of_function, types_fault}

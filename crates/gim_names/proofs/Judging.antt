@@ -60,7 +60,7 @@ not_redefined : (r u w : Bool) → first_kind r u w ≡ None → r ≡ false
 not_redefined true u w e = absurd cc
 not_redefined false u w e = refl
 
--- a occurrence without a fault keeps what is before it sound
+-- an occurrence without a fault keeps what is before it sound
 pub stays_sound : (source : List ℕ) (all before : List Occurrence) (m : Occurrence) → kind_of_occurrence source all before m ≡ None → IsSound source before → IsSound source (m ∷ before)
 stays_sound source all before m none sound =
     let r = or_parts (is_repeated source before m) (is_contradicted source before m) (not_redefined (is_redefined source before m) (is_undeclared source all m) (is_wide source m) none) in

@@ -68,7 +68,7 @@ same_second p q (r ∷ pairs) none (zero, lt, is) e =
       second false b h none = absurd cc
 same_second p q (r ∷ pairs) none (suc k, lt, is) e = same_second p q pairs (or_parts (has_other_second p.0 p.1 r) (list_any (has_other_second p.0 p.1) pairs) none).1 (k, omega (arith, lt), is) e
 
-one_second : (pairs : List (List ℕ × List ℕ)) → have_one_each pairs ≡ true → (p q : List ℕ × List ℕ) → Contains pairs p → Contains pairs q → p.0 ≡ q.0 → p.1 ≡ q.1
+pub one_second : (pairs : List (List ℕ × List ℕ)) → have_one_each pairs ≡ true → (p q : List ℕ × List ℕ) → Contains pairs p → Contains pairs q → p.0 ≡ q.0 → p.1 ≡ q.1
 one_second [] one p q a b e = absurd (omega (arith, a.1))
 one_second (r ∷ pairs) one p q (zero, lt, is) (zero, lt', is') e = ap (λ (z : List ℕ × List ℕ). z.1) (sym is ∙ is')
 one_second (r ∷ pairs) one p q (zero, lt, is) (suc k, lt', is') e =

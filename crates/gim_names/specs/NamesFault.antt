@@ -24,11 +24,11 @@ first_kind false true wide = Some Undeclared
 first_kind false false true = Some WideLiteral
 first_kind false false false = None
 
--- the first kind whose rules a occurrence breaks
+-- the first kind whose rules an occurrence breaks
 abbrev pub kind_of_occurrence : List ℕ → List Occurrence → List Occurrence → Occurrence → Option GimpleKind
 kind_of_occurrence source all before m = first_kind (is_redefined source before m) (is_undeclared source all m) (is_wide source m)
 
--- the fault of a occurrence, at its place
+-- the fault of an occurrence, at its place
 abbrev pub occurrence_fault : List ℕ → List Occurrence → List Occurrence → Occurrence → Option GimpleFault
 occurrence_fault source all before m = option_map (λ kind. fault_at kind (place_of m)) (kind_of_occurrence source all before m)
 

@@ -1,4 +1,4 @@
--- What a occurrence says that the rules on names compare. Versions and block numbers are their digits, so of any size.
+-- What an occurrence says that the rules on names compare. Versions and block numbers are their digits, so of any size.
 use Rattle.std.specs.Prelude.{ℕ, Option, Some, None, option_map, List, [], ◌∷◌}
 use Rattle.gim_text.specs.Texts.{text_of, name_parts}
 use Rattle.gim_text.specs.declared.occurrence.Occurrence.{Occurrence}

@@ -1,4 +1,4 @@
-//! Whether a occurrence breaks a rule on names.
+//! Whether an occurrence breaks a rule on names.
 
 ghost use Rattle.std.specs.Prelude.{◌≡◌, ℕ, List};
 ghost use Rattle.gim_text.specs.Texts.{text_of, name_parts};

@@ -1,4 +1,4 @@
-//! What a occurrence says that the rules on names compare.
+//! What an occurrence says that the rules on names compare.
 
 ghost use Rattle.std.specs.Prelude.{◌≡◌, option_map};
 ghost use Rattle.gim_text.specs.Texts.{name_parts, text_of};

@@ -1,4 +1,4 @@
-//! What stood before a occurrence.
+//! What stood before an occurrence.
 
 ghost use Rattle.std.specs.Prelude.{◌≡◌, ℕ, List, [], ◌∷◌, IfOk, OnOk};
 ghost use Rattle.gim_names.specs.Tables.{Remembers};

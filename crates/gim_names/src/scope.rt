@@ -30,7 +30,7 @@ impl<'a> Scope<'a> {
         }
     }
 
-    /// Notes what a occurrence declares or assigns.
+    /// Notes what an occurrence declares or assigns.
     fn note(&mut self, source: &'a [u8], occurrence: &Occurrence) -> Result<(), OutOfMemory>
         ensures { (all : List Occurrence) → Describes source.now all self.old → OnOk result (Describes source.now (occurrence.now ∷ all) self.new) }
     {

@@ -19,7 +19,7 @@ use Rattle.gim_ast.specs.WellFormed.{IsWellFormed}
 use Rattle.gim_text.specs.Faults.{Judges, or_fault}
 use Rattle.gim_names.specs.NamesFault.{names_fault}
 use Rattle.gim_shape.specs.Shape.{shape_fault}
-use Rattle.gim_shape.specs.Limits.{limits_fault}
+use Rattle.gim_limits.specs.Limits.{limits_fault}
 use Rattle.gim_making.specs.Types.{types_fault}
 use Rattle.gim_making.specs.Judged.{IsSound}
 use Rattle.gim_making.proofs.Sound.{sound_files}

@@ -1,5 +1,5 @@
 -- The fault of a file has its place in the file.
-use Rattle.std.proofs.Common.{◌≡◌, ℕ, zero, suc, ◌+◌, ◌≤◌, Bool, true, false, ◌&&◌, Option, Some, None, option_map, List, [], ◌∷◌, ◌++◌, map, length, refl, sym, ap, subst, arith, inl, inr}
+use Rattle.std.proofs.Common.{◌≡◌, ◌⊎◌, ℕ, zero, suc, ◌+◌, ◌≤◌, Bool, true, false, ◌&&◌, Option, Some, None, option_map, List, [], ◌∷◌, ◌++◌, map, length, Result, Ok, Err, IfErr, refl, sym, ap, subst, arith, inl, inr}
 use Rattle.std.specs.Prelude.{if◌then◌else◌, nat_le}
 use Rattle.std.specs.List.{flat_map, list_all, list_any, AllByRecursion}
 use Rattle.std.specs.Option.{option_map_or}
@@ -36,14 +36,14 @@ use Rattle.gim_lexer.proofs.Placing.{tokens_stand}
 use Rattle.gim_syntax.specs.SyntaxFaults.{last_two_after, last_two, last_after, outside_after, outside_parentheses, depth_after, called, any_word, gimple_of, is_open, closed_options, is_in_block, or_place, unsupported, named_fault, syntax_fault}
 use Rattle.gim_names.specs.NamesFault.{first_by, kind_of_occurrence, occurrence_fault, occurrences_fault, second_function, function_fault, names_fault, function_text}
 use Rattle.gim_shape.specs.Blocks.{is_among, number_of, named_at, jumps_of_end, jumps_of, numbers_of, predecessors}
-use Rattle.gim_shape.specs.Limits.{is_too_large, large_faults, function_limit_faults, limits_fault}
+use Rattle.gim_limits.specs.Limits.{is_too_large, large_faults, function_limit_faults, limits_fault}
 use Rattle.gim_shape.specs.Phis.{args_fit, phi_fault, item_faults}
 use Rattle.gim_shape.specs.Shape.{end_fault, jump_fault, faults_among, body_faults, function_faults, shape_fault}
 use Rattle.gim_making.specs.Declarations.{Declarations, declarations_of, type_of_name}
 use Rattle.gim_making.specs.Types.{start_of, mismatch, place_of_arg, places_of_item, places_of_end, places_of_block, places_of_function, types_fault}
 use Rattle.gim_making.proofs.Membership.{Has, has_left, has_right, has_flat, all_has, each_has}
 use Rattle.gim_making.proofs.Occurring.{in_tree, in_item, target_occurs, argument_occurs}
-use Rattle.gim_reader.specs.Files.{file_limit, rules_fault, IsTokensFault, of_syntax, of_rules, IsFileFault, of_size, of_lexing, of_tokens}
+use Rattle.gim_reader.specs.Files.{file_limit, rules_fault, IsTokensFault, of_syntax, of_rules, IsFileFault, of_size, of_lexing, of_tokens, IsRefusal, by_memory, by_fault}
 use Rattle.gim_reader.proofs.ReaderLemmas.{known_trees}
 use Rattle.gim_reader.proofs.WrittenLemmas.{stands_in, occurrence_stands, item_stands, block_stands, IsPlaced, IsSure, AllSure, all_sure, IsKnown}
 
@@ -332,3 +332,10 @@ within source fault (of_tokens limited list are (of_rules trees spelled broken))
     let n = length source in
     let known = known_trees source list trees limited are spelled in
     subst (FaultIn n) broken (rules_in source n trees (λ tree there. (each_has (IsKnown source) trees known tree there).placed))
+
+pub refused_within : {X : Type 0} (source : List ℕ) (result : Result X GimpleFault) → IfErr result (IsRefusal source) → IfErr result (λ fault. (fault.kind ≡ kinds.Memory) ⊎ (fault.at + fault.len ≤ length source))
+refused_within source (Ok x) refused = tt
+refused_within source (Err fault) refused = by refused where
+  by : IsRefusal source fault → (fault.kind ≡ kinds.Memory) ⊎ (fault.at + fault.len ≤ length source)
+  by (by_memory e) = inl e
+  by (by_fault h) = inr (within source fault h)

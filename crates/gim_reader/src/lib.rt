@@ -5,7 +5,7 @@
 
 pub mod laws;
 
-ghost use Rattle.std.specs.Prelude.{◌≡◌, ◌≤◌, List, IfOk, IfErr, OnOk, MatchResult, None, length};
+ghost use Rattle.std.specs.Prelude.{◌≡◌, ◌⊎◌, ◌+◌, ◌≤◌, List, IfOk, IfErr, OnOk, MatchResult, None, length};
 ghost use Rattle.std.specs.List.{AllByRecursion, AllZip};
 ghost use Rattle.gim_ast.specs.declared.function.Function.{Function};
 ghost use Rattle.gim_ast.specs.WellFormed.{IsWellFormed};
@@ -16,9 +16,10 @@ ghost use Rattle.gim_reader.specs.Files.{IsFile, IsRefusal, FromTokens, IsTokens
 
 use gim_ast::Function;
 use gim_lexer::lex;
+use gim_limits::check_limits;
 use gim_making::{check_types, make};
 use gim_names::check_names;
-use gim_shape::{check_limits, check_shape};
+use gim_shape::check_shape;
 use gim_syntax::read_syntax;
 use gim_text::{FunctionText, Token};
 pub use gim_text::{GimpleFault, GimpleKind};
@@ -35,6 +36,8 @@ pub fn read(alloc: Global, source: &[u8]) -> Result<Vec<Function>, GimpleFault>
     ensures only { (fs : List Function) → IsFile source.now fs → MatchResult result (λ gs. gs.items ≡ fs) (λ fault. fault.kind ≡ Memory) }
     // A refusal is for the first fault, or for want of memory.
     ensures refused { IfErr result (IsRefusal source.now) }
+    // The fault stands in the source, unless memory runs out.
+    ensures within { IfErr result (λ fault. (fault.kind ≡ Memory) ⊎ (fault.at + fault.len ≤ length source.now)) }
     // Each function is well formed.
     ensures well_formed { IfOk result (λ fs. AllByRecursion IsWellFormed fs.items) }
 {

@@ -16,8 +16,8 @@ use Rattle.gim_text.specs.declared.tree.FunctionText.{FunctionText}
 use Rattle.gim_names.specs.Kept.{KeepsNames}
 use Rattle.gim_names.specs.NamesFault.{function_text}
 use Rattle.gim_names.proofs.Keeping.{each_keeps, functions_differ}
-use Rattle.gim_shape.specs.Kept.{KeepsLimits}
-use Rattle.gim_shape.proofs.LimitsKept.{limits_kept}
+use Rattle.gim_limits.specs.Kept.{KeepsLimits}
+use Rattle.gim_limits.proofs.LimitsKept.{limits_kept}
 use Rattle.gim_making.specs.Declarations.{declarations_of, number_of, number_limit}
 use Rattle.gim_making.specs.Names.{AreNames, version_of, named_rows}
 use Rattle.gim_making.specs.Standing.{StandsFor, made}

@@ -3,7 +3,4 @@ pub mod TableLemmas
 pub mod JudgingLemmas
 pub mod DistinctLemmas
 pub mod ShapeLemmas
-pub mod LimitLemmas
 pub mod ShapeKept
-pub mod LimitsKept
-pub mod DifferentLemmas

@@ -1,8 +1,6 @@
--- What holds of functions without a fault of shape, and of functions without one of limits.
-use Rattle.std.specs.Prelude.{◌≡◌, ◌≤◌, ℕ, suc, IsTrue, IsSome, Option, Some, None, List, [], ◌∷◌, length, map, if◌then◌else◌}
+-- What holds of functions without a fault of shape.
+use Rattle.std.specs.Prelude.{◌≡◌, ℕ, suc, IsTrue, IsSome, List, [], ◌∷◌, map, if◌then◌else◌}
 use Rattle.std.specs.List.{AllByRecursion}
-use Rattle.gim_ast.specs.Identifiers.{is_number_text}
-use Rattle.gim_ast.specs.Numbers.{number_below}
 use Rattle.gim_ast.specs.WellFormed.{same_text}
 use Rattle.gim_text.specs.declared.token.Span.{Span}
 use Rattle.gim_text.specs.declared.tree.FunctionText.{FunctionText}
@@ -10,13 +8,9 @@ use Rattle.gim_text.specs.declared.tree.BlockText.{BlockText}
 use Rattle.gim_text.specs.declared.tree.ArgText.{ArgText}
 use Rattle.gim_text.specs.declared.tree.ItemText.{ItemText}
 use Rattle.gim_text.specs.declared.tree.ItemText.TheVariants.{Phi, Stmt}
-use Rattle.gim_text.specs.Occurrences.{occurrences_of}
 use Rattle.gim_text.specs.Texts.{text_of}
 use Rattle.gim_shape.specs.Blocks.{is_among, number_of, named_at, jumps_of, numbers_of, predecessors}
 use Rattle.gim_shape.specs.Phis.{named_by_args, has_args, args_fit}
-use Rattle.gim_shape.specs.Limits.{digits_at, versions_of, different}
-
--- ---- shape
 
 -- how many times the text stands in a list
 abbrev pub times : List ℕ → List (List ℕ) → ℕ
@@ -64,15 +58,3 @@ HasEntry (entry ∷ rest) = HasNoPhi entry.items
 pub record HasShape (source : List ℕ) (function : FunctionText) : Type 0 where
   pub entry : HasEntry function.blocks
   pub blocks : AllByRecursion (BlockHolds source function.blocks) function.blocks
-
--- ---- limits
-
--- digits without a leading zero write a number up to 999,999,999
-abbrev pub NumberFits : Option (List ℕ) → Type 0
-NumberFits None = Unit {0}
-NumberFits (Some digits) = IsTrue (is_number_text digits) → IsSome (number_below 1000000000 digits)
-
-pub record KeepsLimits (source : List ℕ) (function : FunctionText) : Type 0 where
-  pub blocks : length function.blocks ≤ 2000
-  pub names : different (versions_of source (occurrences_of function)) ≤ 20000
-  pub numbers : AllByRecursion (λ occurrence. NumberFits (digits_at source occurrence)) (occurrences_of function)

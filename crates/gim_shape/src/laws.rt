@@ -1,27 +1,13 @@
-//! What functions without a fault keep.
+//! What functions without a fault of shape keep.
 
-ghost use Rattle.std.specs.Prelude.{◌≡◌, ◌≤◌, ℕ, true, List, None, length};
-ghost use Rattle.std.specs.List.{AllByRecursion, list_all};
-ghost use Rattle.gim_ast.specs.WellFormed.{same_text, all_distinct};
+ghost use Rattle.std.specs.Prelude.{◌≡◌, ℕ, List, None};
+ghost use Rattle.std.specs.List.{AllByRecursion};
 ghost use Rattle.gim_text.specs.declared.tree.FunctionText.{FunctionText};
-ghost use Rattle.gim_shape.specs.Blocks.{is_among};
 ghost use Rattle.gim_shape.specs.Shape.{shape_fault};
-ghost use Rattle.gim_shape.specs.Limits.{different, limits_fault};
-ghost use Rattle.gim_shape.specs.Kept.{HasShape, KeepsLimits};
+ghost use Rattle.gim_shape.specs.Kept.{HasShape};
 
 /// Functions without a fault of shape have an entry without phis; each block has an end, jumps that lead to blocks, and phis before
 /// its statements, each with exactly one argument for each block that jumps to it.
 pub fn shape_is_kept()
     ensures { (source : List ℕ) (functions : List FunctionText) → shape_fault source functions ≡ None → AllByRecursion (HasShape source) functions }
-{}
-
-/// Functions without a fault of limits have at most 2,000 blocks and 20,000 names, and no version or block number above
-/// 999,999,999.
-pub fn limits_are_kept()
-    ensures { (source : List ℕ) (functions : List FunctionText) → limits_fault source functions ≡ None → AllByRecursion (KeepsLimits source) functions }
-{}
-
-/// No more texts, of which no two are the same, can be chosen from a list than it is said to have different ones.
-pub fn different_texts_are_counted()
-    ensures { (texts chosen : List (List ℕ)) → all_distinct same_text chosen ≡ true → list_all (is_among texts) chosen ≡ true → length chosen ≤ different texts }
 {}

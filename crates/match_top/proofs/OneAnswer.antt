@@ -10,8 +10,8 @@ use Rattle.gim_ast.proofs.FlowLemmas.{first_is_one, valid_has_no_first}
 use Rattle.gim_reader.specs.Files.{IsFile}
 use Rattle.gim_reader.proofs.OneAnswer.{one_list, no_fault, one_fault}
 use Rattle.gim_round_trip.specs.ReadBack.{MayBeReadBack}
-use Rattle.gim_round_trip.proofs.ReadFiles.{read_may_be_printed}
-use Rattle.gim_round_trip.proofs.RoundTrip.{read_back}
+use Rattle.gim_round_trip.proofs.ReadFunctions.{read_may_be_printed}
+use Rattle.gim_round_trip.proofs.PrintedFunctions.{read_back}
 use Rattle.match_top.specs.Words.{Command, Check}
 use Rattle.match_top.specs.Answers.{Answer, Given, Bytes, Missing, TooLong, Unread, Unknown, Stage, Reached, Ended, OrMemory, refusal, no_memory, functions_limit}
 use Rattle.match_top.specs.Commands.{checked}

@@ -3,12 +3,12 @@
 ghost use Rattle.std.specs.Prelude.{◌≡◌, ◌+◌, ◌||◌, ◌==◌, ℕ, suc, List, [], ◌∷◌, IfOk, option_map, length};
 ghost use Rattle.std.specs.List.{cons_option};
 ghost use Rattle.gim_text.specs.Faults.{Judges, first_fault};
-ghost use Rattle.gim_shape.specs.Limits.{is_above, is_any_above, digits_at, version_at, version_of, blocks_among, versions_of, is_name_too_many, is_block_too_many, is_too_large, large_faults, function_limit_faults, limits_fault};
-ghost use Rattle.gim_shape.specs.Seen.{IsSeen, Takes};
+ghost use Rattle.gim_limits.specs.Limits.{is_above, is_any_above, digits_at, version_at, version_of, blocks_among, versions_of, is_name_too_many, is_block_too_many, is_too_large, large_faults, function_limit_faults, limits_fault};
+ghost use Rattle.gim_limits.specs.Seen.{IsSeen, Takes};
 
 use crate::numbers::is_above;
 use crate::seen::Seen;
-use crate::text::named_at;
+use gim_shape::named_at;
 use gim_text::{
     FunctionText, GimpleFault, GimpleKind, Occurrence, Span, block_at, name_at, name_parts,
     occurrences, text,

@@ -1,8 +1,8 @@
 use Rattle.std.proofs.Common.{◌≡◌, [], reverse, take, drop}
 use Rattle.gim_text.specs.Faults.{first_fault}
-use Rattle.gim_shape.specs.Limits.{blocks_among, versions_of, large_faults}
-use Rattle.gim_shape.specs.Seen.{IsSeen}
-use Rattle.gim_shape.proofs.limits.check_occurrences.Given as goal
+use Rattle.gim_limits.specs.Limits.{blocks_among, versions_of, large_faults}
+use Rattle.gim_limits.specs.Seen.{IsSeen}
+use Rattle.gim_limits.proofs.limits.check_occurrences.Given as goal
 
 abbrev pub invariant-loop-occurrence : goal.invariant-loop-occurrence
 invariant-loop-occurrence l = record {

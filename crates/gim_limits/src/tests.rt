@@ -1,6 +1,7 @@
 //! Trees are built by lines that are written into a text as they are put together. A `!` before a word marks where the fault is.
 
-use crate::{check_limits, check_shape};
+use crate::check_limits;
+use gim_shape::check_shape;
 use gim_text::{
     ArgText, BlockText, DeclText, EndText, FunctionText, GimpleFault, GimpleKind, ItemText,
     LiteralText, LiteralType, OperandText, RightForm, RightText, Span,

@@ -1,7 +1,7 @@
 -- What stands at the places of a function that were gone through.
 use Rattle.std.specs.Prelude.{◌≡◌, ℕ, Bool, false, List}
-use Rattle.gim_shape.specs.declared.seen.Seen.{Seen}
-use Rattle.gim_shape.specs.Limits.{different}
+use Rattle.gim_limits.specs.declared.seen.Seen.{Seen}
+use Rattle.gim_limits.specs.Limits.{different}
 use Rattle.gim_shape.specs.Tables.{HasTexts}
 
 -- names of these versions stand there, and so many blocks

@@ -1,5 +1,5 @@
 -- What limits functions without a fault keep.
-use Rattle.std.proofs.Common.{◌≡◌, ◌≤◌, ℕ, suc, ◌+◌, Bool, true, false, List, [], ◌∷◌, ◌++◌, length, map, Option, Some, None, IsSome, IsTrue, append-nil, refl, sym, ap, subst, ◌∙◌, arith}
+use Rattle.std.proofs.Common.{◌≡◌, ◌≤◌, ℕ, suc, Bool, true, false, List, [], ◌∷◌, ◌++◌, length, Option, Some, None, IsSome, IsTrue, append-nil, refl, sym, ap, subst, ◌∙◌, arith}
 use Rattle.std.specs.Prelude.{not, ◌&&◌, ◌||◌, ◌==◌, if◌then◌else◌}
 use Rattle.std.specs.List.{AllByRecursion, filter_map, cons_option}
 use Rattle.std.proofs.lemmas.List.{length-append, length-map}
@@ -18,10 +18,10 @@ use Rattle.gim_text.specs.Faults.{fault_at, first_fault}
 use Rattle.gim_text.specs.Occurrences.{place_of, block_at, occurrences_of}
 use Rattle.gim_text.proofs.OccurrenceLemmas.{each_says, none_says, said_at_heads}
 use Rattle.gim_shape.specs.Blocks.{is_among}
-use Rattle.gim_shape.specs.Limits.{digits_at, is_above, is_any_above, blocks_among, version_at, versions_of, different, is_name_too_many, is_block_too_many, is_too_large, large_faults, function_limit_faults, limits_fault}
-use Rattle.gim_shape.specs.Kept.{NumberFits, KeepsLimits}
+use Rattle.gim_limits.specs.Limits.{digits_at, is_any_above, blocks_among, version_at, versions_of, different, is_name_too_many, is_block_too_many, is_too_large, large_faults, function_limit_faults, limits_fault}
 use Rattle.gim_shape.proofs.TableLemmas.{same_text_symm, same_is}
 use Rattle.gim_shape.proofs.JudgingLemmas.{none_first, none_of_all}
+use Rattle.gim_limits.specs.Kept.{NumberFits, KeepsLimits}
 
 -- ---- different texts, in any order
 

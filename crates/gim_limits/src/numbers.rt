@@ -1,7 +1,7 @@
 //! Numbers of versions and blocks by their digits.
 
 ghost use Rattle.std.specs.Prelude.{◌≡◌};
-ghost use Rattle.gim_shape.specs.Limits.{is_above};
+ghost use Rattle.gim_limits.specs.Limits.{is_above};
 
 use gim_text::{is_number_text, number_below};
 

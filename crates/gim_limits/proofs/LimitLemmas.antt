@@ -4,8 +4,8 @@ use Rattle.std.specs.Prelude.{not, ◌&&◌, ◌||◌, ◌==◌}
 use Rattle.std.proofs.lemmas.Bool.{eqb-true, false_from_ne_true}
 use Rattle.gim_ast.specs.WellFormed.{same_text}
 use Rattle.gim_shape.specs.Blocks.{is_among}
-use Rattle.gim_shape.specs.Limits.{different}
-use Rattle.gim_shape.specs.Seen.{Takes}
+use Rattle.gim_limits.specs.Limits.{different}
+use Rattle.gim_limits.specs.Seen.{Takes}
 use Rattle.gim_shape.proofs.TableLemmas.{same_text_symm}
 
 pub not_full : (among full : Bool) → full ≡ false → false ≡ (not among && full)

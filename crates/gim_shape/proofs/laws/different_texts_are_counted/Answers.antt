@@ -1,5 +1,0 @@
-use Rattle.gim_shape.proofs.DifferentLemmas.{chosen_are_few}
-use Rattle.gim_shape.proofs.laws.different_texts_are_counted.Goals as goal
-
-pub returns : goal.returns
-returns c = chosen_are_few
