@@ -142,7 +142,7 @@ block_assigns known block first =
     ap (λ l. l ++ map stmt_name stmts) (sym (flat_map_single phi_name phis)) ∙ ap (λ l. flat_map phi_names phis ++ l) (sym (flat_map_single stmt_name stmts))
     ∙ in_order phi_names stmt_names known block.items first
     ∙ flat_same (both phi_names stmt_names known) (λ item. filter_map A (occurrences_of_item item)) block.items (item_assigns known)
-    ∙ sym (filter_of_flat An occurrences_of_item block.items)
+    ∙ sym (filter_of_flat A occurrences_of_item block.items)
     ∙ sym (filter_map-append A whole (occurrences_of_end block.end) ∙ ap (λ l. filter_map A whole ++ l) (no_end A (silent known.source) block.end) ∙ append-nil (filter_map A whole))
 
 pub made_assigns : (source : List ℕ) (tree : FunctionText) (names : List NameRow) → ArePhisFirst tree → assigned (made source tree names) ≡ filter_map (assigned_number source) (occurrences_of tree)

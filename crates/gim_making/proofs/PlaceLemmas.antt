@@ -1,8 +1,8 @@
 -- What is known of each place of a name, where the rules on names are kept and versions are below the limit.
 use Rattle.std.proofs.Common.{◌≡◌, ◌⊎◌, ℕ, Bool, true, false, cond, Option, Some, None, option_map, List, [], ◌∷◌, ◌++◌, refl, sym, ap, subst, ◌∙◌, inl, inr}
-use Rattle.std.specs.Prelude.{◌||◌, not}
+use Rattle.std.specs.Prelude.{◌||◌}
 use Rattle.std.specs.List.{list_any, filter_map}
-use Rattle.std.proofs.lemmas.Bool.{and_parts, and_from, false≢true}
+use Rattle.std.proofs.lemmas.Bool.{and_parts, false≢true}
 use Rattle.pm_wide.specs.Types.{Ty}
 use Rattle.gim_ast.specs.declared.function.NameRow.{NameRow}
 use Rattle.gim_ast.specs.Identifiers.{is_anonymous}
@@ -14,7 +14,6 @@ use Rattle.gim_text.specs.declared.occurrence.Occurrence.{Occurrence}
 use Rattle.gim_text.specs.declared.occurrence.Occurrence.TheVariants.{Parameter, Local, Block, Jump, Assigned, Used, Default, Constant}
 use Rattle.gim_text.specs.Occurrences.{occurrences_of}
 use Rattle.gim_names.specs.Parts.{version_in, turned, anonymous_parts, local_text, plain_version, default_version, version_base, base_default}
-use Rattle.gim_names.specs.Rules.{has_other_second}
 use Rattle.gim_names.specs.Tables.{have_one_each}
 use Rattle.gim_names.specs.Kept.{KeepsNames, locals_of, params_of, assigned_of, has_base, has_param, is_declared}
 use Rattle.gim_names.proofs.KeptParts.{one_second}
@@ -23,7 +22,7 @@ use Rattle.gim_making.specs.declared.places.NamePlace.{NamePlace}
 use Rattle.gim_making.specs.Declarations.{declarations_of, type_by_parts, type_of_name, number_of}
 use Rattle.gim_making.specs.Names.{plain, default_at, name_place, names_in, rows_by_parts, rows_of_place, named_rows}
 use Rattle.gim_making.proofs.Membership.{Has, has_contains, has_flat, from_flat, has_said, from_said, all_has, any_from_has}
-use Rattle.gim_making.proofs.PartLemmas.{some_is, text_itself, same_text_is, parts_are, anonymous_has_parts, IsSmall, same_number}
+use Rattle.gim_making.proofs.PartLemmas.{some_is, text_itself, parts_are, anonymous_has_parts, IsSmall, same_number}
 
 -- ---- pairs
 
