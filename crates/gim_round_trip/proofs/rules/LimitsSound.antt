@@ -1,5 +1,5 @@
 -- No limit is passed by trees that write well-formed functions within the limits.
-use Rattle.std.proofs.Common.{◌≡◌, ℕ, ◌<◌, ◌≤◌, ◌+◌, suc, Bool, true, false, Option, Some, None, List, [], ◌∷◌, map, length, lit≤, refl, sym, ap, ◌∙◌, arith, inl, inr}
+use Rattle.std.proofs.Common.{◌≡◌, ℕ, ◌<◌, ◌≤◌, ◌+◌, suc, Bool, true, false, Option, Some, None, List, [], ◌∷◌, map, length, lit≤, refl, sym, ap, ◌∙◌, arith}
 use Rattle.std.specs.Prelude.{◌==◌, ◌&&◌, ◌||◌, not, is_none, option_map}
 use Rattle.std.specs.List.{AllZip, list_all, filter_map, cons_option}
 use Rattle.std.specs.Fmt.{decimal}
@@ -16,7 +16,6 @@ use Rattle.pm_places.specs.declared.span.Span.{Span}
 use Rattle.gim_text.specs.declared.tree.FunctionText.{FunctionText}
 use Rattle.pm_places.specs.FirstFaults.{first_fault}
 use Rattle.gim_text.specs.Occurrences.{occurrences_of, name_at, block_at}
-use Rattle.gim_text.specs.Texts.{name_parts}
 use Rattle.pm_places.specs.Spans.{text_of}
 use Rattle.gim_names.specs.Parts.{block_number}
 use Rattle.gim_shape.specs.Blocks.{is_among}

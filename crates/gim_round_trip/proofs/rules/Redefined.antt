@@ -1,13 +1,11 @@
 -- No occurrence of a printed function repeats or contradicts one before it.
-use Rattle.std.proofs.Common.{◌≡◌, ℕ, Bool, true, false, cond, Option, Some, None, List, [], ◌∷◌, ◌++◌, sym, ap, subst, ◌∙◌, inl, inr, refl}
-use Rattle.std.specs.Prelude.{◌&&◌, not}
-use Rattle.std.specs.List.{list_any, filter_map}
+use Rattle.std.proofs.Common.{◌≡◌, ℕ, Bool, true, false, cond, Option, Some, None, List, [], ◌∷◌, sym, ap, subst, ◌∙◌, inl, refl}
+use Rattle.std.specs.List.{filter_map}
 use Rattle.std.specs.Fmt.{decimal}
-use Rattle.std.proofs.lemmas.Bool.{and_parts, not-true, false≢true}
+use Rattle.std.proofs.lemmas.Bool.{and_parts, false≢true}
 use Rattle.gim_ast.specs.declared.function.Function.{Function}
 use Rattle.gim_ast.specs.declared.function.NameRow.{NameRow}
 use Rattle.gim_ast.specs.Functions.{assigned}
-use Rattle.gim_ast.specs.Identifiers.{is_anonymous}
 use Rattle.gim_ast.specs.WellFormed.{same_text, all_distinct, initial_bases, numbers_of}
 use Rattle.gim_text.specs.declared.occurrence.Occurrence.{Occurrence}
 use Rattle.gim_text.specs.declared.occurrence.Occurrence.TheVariants.{Local, Assigned, Used, Default}
@@ -19,9 +17,9 @@ use Rattle.pm_places.specs.Spans.{text_of}
 use Rattle.gim_names.specs.Parts.{version_in, turned, anonymous_parts, declared_text, block_number, assigned_version, plain_version, default_version, version_base, base_default}
 use Rattle.gim_names.specs.Rules.{stands, is_declared_again, is_assigned_again, has_other_base, has_other_mark, has_other_default, is_repeated, is_marked_otherwise, is_contradicted, is_redefined}
 use Rattle.gim_making.specs.Names.{is_default}
-use Rattle.gim_making.proofs.Membership.{Has, any_from_has, has_flat, from_said}
+use Rattle.gim_making.proofs.Membership.{Has, from_said}
 use Rattle.gim_making.proofs.NameRowLemmas.{one_of_version}
-use Rattle.gim_making.proofs.PartLemmas.{some_is, text_itself, bare_is_anonymous}
+use Rattle.gim_making.proofs.PartLemmas.{some_is, bare_is_anonymous}
 use Rattle.gim_round_trip.proofs.rules.KeptRules.{NeverBy, never_either, never_twice, never_both, never_differs}
 use Rattle.gim_round_trip.proofs.tree.DistinctTexts.{one_of}
 use Rattle.gim_round_trip.proofs.tree.OccurringTexts.{declared_said, numbers_said, versions_said}

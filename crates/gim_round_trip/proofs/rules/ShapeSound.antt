@@ -1,7 +1,7 @@
 -- No rule of shape is broken by trees that write well-formed functions.
-use Rattle.std.proofs.Common.{◌≡◌, ℕ, ◌<◌, Bool, true, false, cond, Option, Some, None, List, [], ◌∷◌, ◌++◌, map, refl, sym, ap, subst, ◌∙◌, inl, inr}
-use Rattle.std.specs.Prelude.{◌==◌, ◌&&◌, ◌||◌, not, filter}
-use Rattle.std.specs.List.{AllByRecursion, AllZip, flat_map, list_any, list_all}
+use Rattle.std.proofs.Common.{◌≡◌, ℕ, ◌<◌, Bool, true, false, cond, Option, Some, None, List, [], ◌∷◌, ◌++◌, map, refl, sym, ap, ◌∙◌, inl, inr}
+use Rattle.std.specs.Prelude.{◌==◌, ◌||◌, filter}
+use Rattle.std.specs.List.{AllZip, flat_map, list_any, list_all}
 use Rattle.std.specs.Option.{option_map_or}
 use Rattle.std.specs.Fmt.{decimal}
 use Rattle.std.proofs.lemmas.Bool.{and_parts, and_from, false≢true}
@@ -29,7 +29,7 @@ use Rattle.gim_shape.specs.Blocks as shape
 use Rattle.gim_shape.specs.Blocks.{number_of, named_at, jumps_of_end, jumps_of, jumps_to, predecessors}
 use Rattle.gim_shape.specs.Phis.{named_by_args, has_args, is_each_once, args_fit, item_faults}
 use Rattle.gim_shape.specs.Shape.{end_fault, jump_fault, faults_among, body_faults, function_faults, shape_fault}
-use Rattle.gim_making.proofs.Membership.{Has, from_map, has_flat, all_has, all_from_has}
+use Rattle.gim_making.proofs.Membership.{Has, has_flat, all_has, all_from_has}
 use Rattle.gim_round_trip.proofs.tree.SmallNumbers.{AreSmallNumbers, numbers_small, number_small, predecessors_small, targets_small, phi_blocks_small, among_decimals, distinct_decimals, all_among_decimals, images_are_decimals}
 use Rattle.gim_round_trip.proofs.tree.WellFormedParts.{of_blocks, phi_rules}
 use Rattle.gim_round_trip.proofs.tree.PairedLists.{beside_first}

@@ -1,8 +1,8 @@
 -- No rule on types is broken by trees that write well-formed functions, and each stands for its function.
 use Rattle.std.proofs.Common.{◌≡◌, ℕ, Bool, true, Option, Some, None, List, [], ◌∷◌, refl, sym, ap, subst, ◌∙◌, inl, inr}
 use Rattle.std.specs.Prelude.{◌&&◌}
-use Rattle.std.specs.List.{AllByRecursion, AllZip, flat_map}
-use Rattle.std.proofs.lemmas.Bool.{and_parts, and_from}
+use Rattle.std.specs.List.{AllZip, flat_map}
+use Rattle.std.proofs.lemmas.Bool.{and_from}
 use Rattle.pm_ops.specs.Codes.{is_comparison_code}
 use Rattle.pm_wide.specs.Types.{Ty, same_type}
 use Rattle.pm_wide.specs.declared.operand.Operand.{Operand}
@@ -16,7 +16,7 @@ use Rattle.gim_ast.specs.declared.function.End.{End}
 use Rattle.gim_ast.specs.declared.function.End.TheVariants as ends
 use Rattle.gim_ast.specs.Functions.{operands_of, operands_of_end}
 use Rattle.gim_printer.specs.Printing as printing
-use Rattle.gim_ast.specs.WellFormed.{IsWellFormed, type_of, rhs_fits, end_fits}
+use Rattle.gim_ast.specs.WellFormed.{type_of, rhs_fits, end_fits}
 use Rattle.gim_text.specs.declared.fault.GimpleFault.{GimpleFault}
 use Rattle.pm_places.specs.declared.span.Span.{Span}
 use Rattle.gim_text.specs.declared.tree.BlockText.{BlockText}
@@ -35,7 +35,6 @@ use Rattle.gim_making.specs.Trees.{rhs_of}
 use Rattle.gim_making.specs.Types.{types_fault, type_of_operand, form_fits, start_of, mismatch, place_of_arg, places_of_item, places_of_end, places_of_block, places_of_function}
 use Rattle.gim_making.proofs.Membership.{Has, has_either, from_map, from_flat, all_has}
 use Rattle.gim_making.proofs.PartLemmas.{type_itself}
-use Rattle.gim_round_trip.specs.ReadBack.{IsWithinLimits}
 use Rattle.gim_round_trip.proofs.tree.Rows.{name_facts}
 use Rattle.gim_round_trip.proofs.tree.WellFormedParts.{phi_operand, stmt_operand, end_operand, phi_row, stmt_row, end_fits_here}
 use Rattle.gim_round_trip.proofs.tree.KnownNames.{known_name, operand_is}

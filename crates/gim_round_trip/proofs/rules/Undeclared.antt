@@ -1,10 +1,10 @@
 -- Each name that occurs in a printed function is declared, and each of its constants has its word.
-use Rattle.std.proofs.Common.{◌≡◌, ℕ, Bool, true, false, cond, Some, List, [], ◌∷◌, ◌++◌, map, refl, sym, ap, ◌∙◌, inl, inr}
-use Rattle.std.specs.Prelude.{◌==◌, ◌&&◌, ◌||◌, not, is_none}
+use Rattle.std.proofs.Common.{◌≡◌, ℕ, Bool, true, false, Some, List, [], ◌∷◌, ◌++◌, map, refl, sym, ap, ◌∙◌}
+use Rattle.std.specs.Prelude.{◌==◌, not, is_none}
 use Rattle.std.specs.List.{list_any, filter_map}
 use Rattle.std.specs.Fmt.{decimal}
-use Rattle.std.proofs.lemmas.Bool.{and_parts, or_cases, or_from, or_left, or_right, not-true, eqb-true, false_from_ne_true, false≢true}
-use Rattle.pm_wide.specs.Types.{Ty, same_type}
+use Rattle.std.proofs.lemmas.Bool.{and_parts, or_from, or_left, or_right, not-true, eqb-true, false_from_ne_true, false≢true}
+use Rattle.pm_wide.specs.Types.{Ty}
 use Rattle.gim_ast.specs.declared.function.Function.{Function}
 use Rattle.gim_ast.specs.declared.function.Decl.{Decl}
 use Rattle.gim_ast.specs.declared.function.NameRow.{NameRow}
@@ -19,7 +19,7 @@ use Rattle.pm_places.specs.declared.span.Span.{Span}
 use Rattle.gim_text.specs.Occurrences.{occurrences_of}
 use Rattle.gim_text.specs.Texts.{name_parts}
 use Rattle.pm_places.specs.Spans.{text_of}
-use Rattle.gim_names.specs.Parts.{param_text, local_text, assigned_text as text_assigned}
+use Rattle.gim_names.specs.Parts.{param_text, local_text}
 use Rattle.gim_names.specs.Rules.{lacks_base, lacks_param, is_unassigned, is_undeclared, is_wide}
 use Rattle.gim_names.proofs.Keeping.{bare_is_anonymous}
 use Rattle.gim_making.proofs.Membership.{has_map, any_has, any_from_has, none_has}

@@ -1,29 +1,26 @@
 -- The printed lines of phis and statements are read as these.
-use Rattle.std.proofs.Common.{◌≡◌, ◌⊎◌, ℕ, ◌<◌, ◌^◌, Bool, true, false, cond, List, [], ◌∷◌, ◌++◌, codes, inl, inr, refl, sym, subst, arith}
-use Rattle.std.specs.Prelude.{not, ◌&&◌, ◌||◌}
+use Rattle.std.proofs.Common.{◌≡◌, ℕ, ◌<◌, ◌^◌, true, false, List, [], ◌∷◌, ◌++◌, codes, refl, sym, subst, arith}
 use Rattle.std.specs.Fmt.{decimal}
-use Rattle.std.specs.List.{flat_map, list_all, AllZip}
+use Rattle.std.specs.List.{AllZip}
 use Rattle.std.proofs.lemmas.Bool.{and_parts, false≢true}
 use Rattle.std.proofs.lemmas.List.{append_assoc}
-use Rattle.pm_wide.specs.Types.{Ty, same_type}
+use Rattle.pm_wide.specs.Types.{Ty}
 use Rattle.pm_wide.specs.declared.operand.Operand.{Operand}
-use Rattle.pm_wide.proofs.Results.{same_type_is}
 use Rattle.gim_ast.specs.declared.function.Function.{Function}
 use Rattle.gim_ast.specs.declared.function.Block.{Block}
 use Rattle.gim_ast.specs.declared.function.Phi.{Phi}
 use Rattle.gim_ast.specs.declared.function.Stmt.{Stmt}
 use Rattle.gim_ast.specs.declared.function.Decl.{Decl}
 use Rattle.gim_ast.specs.declared.function.NameRow.{NameRow}
-use Rattle.gim_ast.specs.Functions.{operands_of, operands_of_block, operands_of_phi, operands_of_stmt, operands_of_end}
 use Rattle.gim_printer.specs.Printing.{line, listed, assigned_text, type_of_name, operand_text, rhs_text, phi_argument_text, phi_line, stmt_line}
-use Rattle.gim_ast.specs.WellFormed.{IsWellFormed, is_type_of, is_empty, operand_holds, phi_fits, stmt_fits, rhs_fits, phi_holds, base_holds, declares_as, same_text}
+use Rattle.gim_ast.specs.WellFormed.{IsWellFormed, is_type_of, is_empty, operand_holds, rhs_fits, base_holds, declares_as}
 use Rattle.gim_ast.specs.Identifiers.{anonymous}
 use Rattle.gim_text.specs.declared.token.Keyword.TheVariants as keywords
 use Rattle.gim_text.specs.declared.token.Mark.TheVariants as marks
 use Rattle.gim_text.specs.declared.tree.ArgText.{ArgText}
 use Rattle.gim_text.specs.declared.tree.ItemText.{ItemText}
 use Rattle.gim_text.specs.declared.tree.ItemText.TheVariants as items
-use Rattle.gim_making.proofs.Membership.{Has, has_left, has_right, has_map, has_flat, all_has, any_has}
+use Rattle.gim_making.proofs.Membership.{Has, has_left, has_right, has_map, all_has}
 use Rattle.gim_statements.specs.Grammar.{SpellsArg, SpellsArgs, SpellsItem}
 use Rattle.gim_round_trip.specs.ReadBack.{IsWithinLimits}
 use Rattle.gim_round_trip.proofs.tree.Rows.{name_facts, HasBase, bare, of_param, of_local, base_of_row, declared_as}
@@ -33,7 +30,7 @@ use Rattle.gim_round_trip.proofs.text.Prints.{word_end, any_end, Prints, joined,
 use Rattle.gim_round_trip.proofs.text.Tokens.{block_word_prints, a_mark_prints, a_keyword_prints}
 use Rattle.gim_round_trip.proofs.text.Operands.{assigned_prints, operand_prints}
 use Rattle.gim_round_trip.proofs.text.Sequences.{lead, trail, told, comma_list, quiet_assign, quiet_semicolon}
-use Rattle.gim_round_trip.proofs.text.RightSides.{OperandsHold, right_prints}
+use Rattle.gim_round_trip.proofs.text.RightSides.{right_prints}
 use Rattle.gim_round_trip.proofs.tree.Writes.{WritesArg, WritesPhi, WritesStmt}
 
 -- ---- what is known of the parts of a block

@@ -1,7 +1,7 @@
 -- Texts of one mark, whatever follows them or before white space.
 use Rattle.std.proofs.Common.{◌≡◌, ℕ, Bool, true, false, Some, None, List, [], ◌∷◌, ◌++◌, length, codes, refl, sym, ap, ◌∙◌}
-use Rattle.std.specs.Prelude.{◌==◌, ◌&&◌, not}
-use Rattle.std.proofs.lemmas.Bool.{and_parts, not-true, ne_eqb, false≢true}
+use Rattle.std.specs.Prelude.{◌==◌}
+use Rattle.std.proofs.lemmas.Bool.{ne_eqb, false≢true}
 use Rattle.lexing.specs.Bytes.{is_digit, is_letter}
 use Rattle.gim_text.specs.declared.token.Mark.{Mark}
 use Rattle.gim_text.specs.declared.token.Mark.TheVariants as marks

@@ -20,7 +20,6 @@ use Rattle.gim_text.specs.declared.token.Token.TheVariants as tokens
 use Rattle.pm_places.specs.Spans.{text_of, place}
 use Rattle.gim_lexer.specs.Numbers.{suffix_kind, number_kind}
 use Rattle.gim_lexer.specs.Separators.{separator_length}
-use Rattle.lexing.specs.Separators.{is_space}
 use Rattle.gim_lexer.specs.Tokens.{number_at, token_of_text}
 use Rattle.gim_lexer.proofs.LongestMatch.{number_begins}
 use Rattle.lexing.proofs.ByteLemmas.{letter_is_no_digit}

@@ -14,7 +14,7 @@ use Rattle.gim_ast.specs.declared.function.Rhs.TheVariants as sides
 use Rattle.gim_ast.specs.Functions.{operands_of_rhs}
 use Rattle.gim_printer.specs.Printing.{type_text, operand_text, negated_text, prefix_text, sign_text, unary_text, infix_text, binary_text, ternary_text, operation_text, rhs_text}
 use Rattle.gim_ast.specs.WellFormed.{IsWellFormed, is_type_of, operand_holds, rhs_fits, type_of}
-use Rattle.gim_text.specs.Meanings.{mark, keyword, identifier, span_of}
+use Rattle.gim_text.specs.Meanings.{identifier, span_of}
 use Rattle.pm_places.specs.declared.span.Span.{Span}
 use Rattle.gim_text.specs.declared.token.Token.{Token}
 use Rattle.gim_text.specs.declared.token.Token.TheVariants as tokens

@@ -3,12 +3,9 @@ use Rattle.std.proofs.Common.{◌≡◌, ℕ, ◌^◌, ◌<◌, Bool, true, fals
 use Rattle.std.specs.Fmt.{decimal}
 use Rattle.std.proofs.lemmas.Bool.{false≢true}
 use Rattle.std.proofs.lemmas.List.{append-nil}
-use Rattle.pm_ops.specs.declared.code.Code.{Code}
-use Rattle.pm_ops.specs.Codes.{is_comparison_code}
 use Rattle.gim_ast.specs.Identifiers.{is_identifier}
 use Rattle.lexing.specs.Words.{is_word_text}
 use Rattle.lexing.specs.Numbers.{is_number_text}
-use Rattle.gim_printer.specs.Printing.{sign_text}
 use Rattle.lexing.proofs.NumberLemmas.{decimal_is_number_text, number_is_word}
 use Rattle.pm_places.specs.declared.span.Span.{Span}
 use Rattle.gim_text.specs.declared.token.Token.{Token}
@@ -24,7 +21,6 @@ use Rattle.grammar.specs.Spelling.{Meant}
 use Rattle.gim_lexer.specs.Words.{word_token}
 use Rattle.gim_words.specs.Tokens.{plain_number}
 use Rattle.gim_statements.specs.Grammar.{AMark, AKeyword}
-use Rattle.gim_statements.specs.Words.{comparison_code, infix_code}
 use Rattle.gim_syntax.specs.Grammar.{IsSsa}
 use Rattle.gim_round_trip.proofs.text.Prints.{Prints, any_end, word_end, blank_end, seen}
 use Rattle.gim_round_trip.proofs.tree.Writes.{NamesBlock}

@@ -1,16 +1,16 @@
 -- The text of a name is an identifier, since no reserved word ends in an underscore and a number.
-use Rattle.std.proofs.Common.{◌≡◌, ◌⊎◌, ℕ, ◌<◌, ◌^◌, Bool, true, false, cond, Option, Some, None, List, [], ◌∷◌, ◌++◌, map, refl, sym, ap, ◌∙◌, inl, inr, arith}
-use Rattle.std.specs.Prelude.{◌==◌, ◌&&◌, ◌||◌, not, is_some}
+use Rattle.std.proofs.Common.{◌≡◌, ◌⊎◌, ℕ, ◌<◌, ◌^◌, Bool, true, false, Option, Some, None, List, [], ◌∷◌, ◌++◌, map, refl, sym, ap, ◌∙◌, inl, inr, arith}
+use Rattle.std.specs.Prelude.{◌==◌, ◌&&◌, not, is_some}
 use Rattle.std.specs.List.{list_all, list_any}
 use Rattle.std.specs.Fmt.{decimal}
-use Rattle.std.proofs.lemmas.Bool.{and_parts, and_from, or_cases, or_from, eqb-true, not_from_false, false_from_ne_true, false≢true}
+use Rattle.std.proofs.lemmas.Bool.{and_parts, and_from, or_from, eqb-true, not_from_false, false_from_ne_true, false≢true}
 use Rattle.std.proofs.lemmas.List.Folds.{list_all-append}
 use Rattle.pm_wide.specs.Types.{Ty}
 use Rattle.gim_ast.specs.declared.function.Function.{Function}
 use Rattle.gim_ast.specs.declared.function.Decl.{Decl}
 use Rattle.gim_ast.specs.declared.function.NameRow.{NameRow}
 use Rattle.gim_ast.specs.Functions.{row_of}
-use Rattle.gim_ast.specs.Identifiers.{is_block_word, is_reserved, is_identifier, anonymous, reserved_words}
+use Rattle.gim_ast.specs.Identifiers.{is_block_word, is_reserved, is_identifier, reserved_words}
 use Rattle.lexing.specs.Bytes.{is_letter, is_word_byte}
 use Rattle.lexing.specs.Words.{is_word_text}
 use Rattle.lexing.specs.Numbers.{is_number_text}
@@ -19,7 +19,7 @@ use Rattle.gim_ast.specs.WellFormed.{IsWellFormed, same_text, ident_of, declares
 use Rattle.lexing.proofs.NumberLemmas.{decimal_is_number_text, number_text_is_digits, number_is_word}
 use Rattle.gim_text.specs.Texts.{name_parts}
 use Rattle.gim_text.proofs.NameLemmas.{no_parts_at}
-use Rattle.gim_making.proofs.Membership.{Has, has_map, has_left, has_right, all_has, none_from_has, any_has}
+use Rattle.gim_making.proofs.Membership.{Has, has_map, has_left, has_right, all_has, none_from_has}
 use Rattle.gim_making.proofs.PartLemmas.{same_text_is}
 use Rattle.gim_round_trip.specs.ReadBack.{IsWithinLimits}
 use Rattle.gim_round_trip.proofs.tree.Rows.{name_facts, HasBase, bare, of_param, of_local, base_of_row, declared_as}

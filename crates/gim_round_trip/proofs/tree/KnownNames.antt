@@ -1,15 +1,14 @@
 -- What the declarations in a tree give to the names and operands of the function that it writes.
 use Rattle.std.proofs.Common.{◌≡◌, ℕ, true, false, cond, Some, None, List, [], ◌∷◌, ◌++◌, map, refl, sym, ap, subst, ◌∙◌, inl, inr}
-use Rattle.std.specs.Prelude.{◌&&◌, ◌||◌, not}
-use Rattle.std.specs.List.{AllZip, AllByRecursion, list_any}
+use Rattle.std.specs.Prelude.{not}
+use Rattle.std.specs.List.{AllZip, list_any}
 use Rattle.std.specs.Option.{option_or, unwrap_or}
 use Rattle.std.specs.Fmt.{decimal}
-use Rattle.std.proofs.lemmas.Bool.{and_parts, and_from, or_cases, not-true, false_from_ne_true}
+use Rattle.std.proofs.lemmas.Bool.{and_parts, false_from_ne_true}
 use Rattle.std.proofs.lemmas.List.{map-append}
-use Rattle.pm_wide.specs.Types.{Ty, same_type, bool_type}
+use Rattle.pm_wide.specs.Types.{Ty, bool_type}
 use Rattle.pm_wide.specs.declared.operand.Operand.{Operand}
 use Rattle.pm_wide.specs.declared.operand.Operand.TheVariants as operands
-use Rattle.pm_wide.proofs.Results.{same_type_is}
 use Rattle.gim_ast.specs.declared.function.Function.{Function}
 use Rattle.gim_ast.specs.declared.function.Decl.{Decl}
 use Rattle.gim_ast.specs.declared.function.NameRow.{NameRow}
@@ -26,9 +25,8 @@ use Rattle.gim_text.specs.Texts.{name_parts}
 use Rattle.pm_places.specs.Spans.{text_of}
 use Rattle.gim_making.specs.Declarations.{declarations_of, declared_type, type_by_base, type_by_parts, type_of_name, version_by_parts, version_of_name}
 use Rattle.gim_making.specs.Trees.{no_word, operand_of}
-use Rattle.gim_making.proofs.Membership.{Has, has_left, has_right, has_map, any_has, none_has, none_from_has}
+use Rattle.gim_making.proofs.Membership.{Has, has_map}
 use Rattle.gim_making.proofs.PartLemmas.{text_itself, same_text_is}
-use Rattle.gim_round_trip.specs.ReadBack.{IsWithinLimits}
 use Rattle.gim_round_trip.proofs.tree.DistinctTexts.{front_distinct, rest_distinct, not_again, apart}
 use Rattle.gim_round_trip.proofs.tree.Rows.{name_facts, HasBase, bare, of_param, of_local, base_of_row, declared_as}
 use Rattle.gim_round_trip.proofs.tree.SmallNumbers.{number_of_decimal}

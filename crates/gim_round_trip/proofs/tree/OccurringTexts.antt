@@ -1,5 +1,5 @@
 -- The texts that occur in a tree that writes a function, in their order: identifiers, numbers of blocks and assigned names.
-use Rattle.std.proofs.Common.{◌≡◌, ℕ, Option, Some, None, List, [], ◌∷◌, ◌++◌, map, option_map, refl, sym, ap, ◌∙◌}
+use Rattle.std.proofs.Common.{◌≡◌, ℕ, Option, Some, None, List, ◌++◌, map, option_map, refl, sym, ap, ◌∙◌}
 use Rattle.std.specs.List.{AllZip, filter_map}
 use Rattle.std.specs.Fmt.{decimal}
 use Rattle.std.proofs.lemmas.Simd.{map-map}

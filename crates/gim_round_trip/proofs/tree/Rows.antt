@@ -1,34 +1,27 @@
 -- The rules on the names of a well-formed function, one by one, and what is known of each row.
-use Rattle.std.proofs.Common.{◌≡◌, ℕ, ◌<◌, ◌^◌, Bool, true, false, cond, Option, Some, None, List, [], ◌∷◌, ◌++◌, map, codes, lit≤, refl, sym, ap, subst, ◌∙◌, arith, inl, inr}
+use Rattle.std.proofs.Common.{◌≡◌, ℕ, ◌<◌, Bool, true, false, cond, Some, List, [], ◌∷◌, ◌++◌, map, codes, refl, sym, ap, ◌∙◌, arith, inl, inr}
 use Rattle.std.specs.Prelude.{◌==◌, ◌&&◌, ◌||◌, not, nat_lt}
-use Rattle.std.specs.List.{list_all, list_any, flat_map}
-use Rattle.std.specs.Option.{option_map_or, unwrap_or}
+use Rattle.std.specs.List.{list_all, list_any}
+use Rattle.std.specs.Option.{option_map_or}
 use Rattle.std.specs.Fmt.{decimal}
-use Rattle.std.proofs.lemmas.Bool.{and_parts, or_cases, eqb-true, eq-eqb, ltb-true, not-true, false≢true}
-use Rattle.std.proofs.lemmas.Fmt.{decimal_injective}
+use Rattle.std.proofs.lemmas.Bool.{and_parts, or_cases, eq-eqb, ltb-true, not-true, false≢true}
 use Rattle.pm_wide.specs.Types.{Ty, same_type}
-use Rattle.pm_wide.specs.declared.operand.Operand.{Operand}
-use Rattle.pm_wide.specs.declared.operand.Operand.TheVariants as operands
 use Rattle.pm_wide.proofs.Results.{same_type_is}
 use Rattle.gim_ast.specs.declared.function.Function.{Function}
-use Rattle.gim_ast.specs.declared.function.Block.{Block}
-use Rattle.gim_ast.specs.declared.function.Phi.{Phi}
-use Rattle.gim_ast.specs.declared.function.Stmt.{Stmt}
 use Rattle.gim_ast.specs.declared.function.Decl.{Decl}
 use Rattle.gim_ast.specs.declared.function.NameRow.{NameRow}
-use Rattle.gim_ast.specs.Functions.{operands_of, assigned, targets_of, row_of, is_used}
+use Rattle.gim_ast.specs.Functions.{assigned, row_of, is_used}
 use Rattle.gim_ast.specs.Identifiers.{is_anonymous, anonymous}
 use Rattle.gim_printer.specs.Printing.{name_text, assigned_text, type_of_name, base_of}
 use Rattle.gim_ast.specs.Readable.{is_initial}
-use Rattle.gim_ast.specs.WellFormed.{IsWellFormed, ident_of, same_text, all_distinct, rises, declares_as, base_holds, row_stands, initial_bases, names_hold, operand_holds, block_fits, phi_fits, stmt_fits, rhs_fits, numbers_of, is_among, is_assigned, blocks_hold, entry_has_no_phi, is_empty, predecessors, phi_blocks, phi_holds, type_of}
-use Rattle.lexing.proofs.NumberLemmas.{number_below-decimal, decimal_is_number_text}
+use Rattle.gim_ast.specs.WellFormed.{IsWellFormed, same_text, all_distinct, rises, declares_as, base_holds, row_stands, initial_bases, is_assigned}
+use Rattle.lexing.proofs.NumberLemmas.{decimal_is_number_text}
 use Rattle.gim_text.specs.Texts.{name_parts}
 use Rattle.gim_text.proofs.NameLemmas.{parts_found}
-use Rattle.gim_making.specs.Declarations.{number_of, number_limit}
 use Rattle.gim_making.specs.Names.{version_of}
-use Rattle.gim_making.proofs.Membership.{Has, all_has, any_has, any_from_has, has_map, has_flat, from_flat}
+use Rattle.gim_making.proofs.Membership.{Has, all_has, any_has, any_from_has, has_map}
 use Rattle.gim_making.proofs.NameRowLemmas.{first_of_here, first_of_in, one_of_version}
-use Rattle.gim_making.proofs.PartLemmas.{same_text_is, text_itself}
+use Rattle.gim_making.proofs.PartLemmas.{same_text_is}
 use Rattle.gim_making.proofs.RowLemmas.{first_of_has}
 use Rattle.gim_round_trip.specs.ReadBack.{IsWithinLimits}
 

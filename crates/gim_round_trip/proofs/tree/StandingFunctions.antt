@@ -1,11 +1,8 @@
 -- A function is what the tree that writes it stands for.
-use Rattle.std.proofs.Common.{◌≡◌, ℕ, ◌<◌, true, Option, Some, List, [], ◌∷◌, ◌++◌, map, refl, sym, ap, ◌∙◌, inl, inr}
-use Rattle.std.specs.List.{AllZip, flat_map}
-use Rattle.std.proofs.lemmas.Bool.{and_parts}
+use Rattle.std.proofs.Common.{◌≡◌, ℕ, ◌<◌, Option, Some, List, [], ◌∷◌, ◌++◌, map, refl, ap, ◌∙◌, inl, inr}
+use Rattle.std.specs.List.{flat_map}
 use Rattle.std.proofs.lemmas.Grind.{flat_map-append}
 use Rattle.std.proofs.lemmas.List.{append-nil}
-use Rattle.pm_ops.specs.declared.code.Code.{Code}
-use Rattle.pm_ops.specs.declared.code.Code.TheVariants as codes
 use Rattle.pm_wide.specs.Types.{Ty}
 use Rattle.pm_wide.specs.declared.operand.Operand.{Operand}
 use Rattle.gim_ast.specs.declared.function.Function.{Function}
@@ -17,9 +14,8 @@ use Rattle.gim_ast.specs.declared.function.Rhs.{Rhs}
 use Rattle.gim_ast.specs.declared.function.Rhs.TheVariants as sides
 use Rattle.gim_ast.specs.declared.function.End.{End}
 use Rattle.gim_ast.specs.declared.function.End.TheVariants as ends
-use Rattle.gim_ast.specs.Functions.{operands_of, operands_of_block, operands_of_phi, operands_of_stmt, operands_of_rhs, operands_of_end, targets_of}
+use Rattle.gim_ast.specs.Functions.{operands_of, operands_of_rhs, operands_of_end, targets_of}
 use Rattle.gim_printer.specs.Printing.{type_of_name}
-use Rattle.gim_ast.specs.WellFormed.{phi_fits, stmt_fits, block_fits}
 use Rattle.pm_places.specs.declared.span.Span.{Span}
 use Rattle.gim_text.specs.declared.tree.ArgText.{ArgText}
 use Rattle.gim_text.specs.declared.tree.BlockText.{BlockText}
@@ -34,8 +30,8 @@ use Rattle.gim_text.specs.declared.tree.RightForm.TheVariants.{Copy, Unary, Cast
 use Rattle.pm_places.specs.Spans.{text_of}
 use Rattle.gim_making.specs.Declarations.{Declarations, declarations_of, number_of}
 use Rattle.gim_making.specs.Standing.{made}
-use Rattle.gim_making.specs.Trees.{operand_of, rhs_of, block_number, arg_of, phi_of, stmt_of, end_of, block_of, decl_of}
-use Rattle.gim_making.proofs.Membership.{Has, has_left, has_right, has_map, has_flat, all_has}
+use Rattle.gim_making.specs.Trees.{rhs_of, block_number, arg_of, phi_of, stmt_of, end_of, block_of, decl_of}
+use Rattle.gim_making.proofs.Membership.{Has, has_map}
 use Rattle.gim_round_trip.proofs.tree.SmallNumbers.{AreSmallNumbers, number_of_decimal, number_small, targets_small, phi_blocks_small}
 use Rattle.gim_round_trip.proofs.tree.WellFormedParts.{phi_operand, stmt_operand, end_operand, phi_row, stmt_row}
 use Rattle.gim_round_trip.proofs.tree.KnownNames.{known_name, operand_is}

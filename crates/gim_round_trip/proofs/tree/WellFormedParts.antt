@@ -1,5 +1,5 @@
 -- What the rules on a well-formed function say of its blocks, phis, statements and operands, one by one.
-use Rattle.std.proofs.Common.{◌≡◌, ℕ, Bool, true, false, Option, Some, None, List, [], ◌∷◌, ◌++◌, map, refl, sym, ap, ◌∙◌, inl, inr}
+use Rattle.std.proofs.Common.{◌≡◌, ℕ, true, false, Option, Some, None, ◌++◌, map, refl, sym, ap, ◌∙◌, inl, inr}
 use Rattle.std.specs.Prelude.{◌==◌}
 use Rattle.std.specs.List.{list_all, flat_map}
 use Rattle.std.specs.Option.{option_map_or}
@@ -14,7 +14,7 @@ use Rattle.gim_ast.specs.declared.function.Phi.{Phi}
 use Rattle.gim_ast.specs.declared.function.Stmt.{Stmt}
 use Rattle.gim_ast.specs.declared.function.NameRow.{NameRow}
 use Rattle.gim_ast.specs.Functions.{operands_of, operands_of_block, operands_of_phi, operands_of_stmt, operands_of_end, assigned, assigned_in, phi_name, stmt_name, targets_of, row_of}
-use Rattle.gim_ast.specs.WellFormed.{IsWellFormed, all_distinct, operand_holds, block_fits, phi_fits, stmt_fits, rhs_fits, end_fits, numbers_of, is_among, blocks_hold, entry_has_no_phi, is_empty, predecessors, phi_blocks, phi_holds, type_of}
+use Rattle.gim_ast.specs.WellFormed.{IsWellFormed, all_distinct, operand_holds, block_fits, phi_fits, stmt_fits, rhs_fits, end_fits, numbers_of, is_among, entry_has_no_phi, is_empty, predecessors, phi_blocks, phi_holds, type_of}
 use Rattle.gim_making.proofs.Membership.{Has, all_has, has_left, has_right, has_either, has_map, from_map, has_flat, from_flat}
 
 -- ---- blocks

@@ -1,7 +1,6 @@
 -- What occurs in a tree that writes a function, by the declarations, the blocks and the names of this function.
-use Rattle.std.proofs.Common.{◌≡◌, ℕ, ◌<◌, Bool, true, false, cond, Option, Some, None, List, [], ◌∷◌, ◌++◌, map, refl, sym, ap, subst, ◌∙◌, arith, inl, inr}
+use Rattle.std.proofs.Common.{◌≡◌, ℕ, ◌<◌, Bool, true, false, cond, Some, None, List, [], ◌∷◌, ◌++◌, map, refl, sym, ap, subst, ◌∙◌, arith, inl, inr}
 use Rattle.std.specs.Prelude.{◌==◌, ◌&&◌, ◌||◌, not}
-use Rattle.std.specs.List.{list_any}
 use Rattle.std.specs.Fmt.{decimal}
 use Rattle.std.proofs.lemmas.Bool.{and_parts, and_from, or_cases, eqb-true, eq-eqb, false≢true}
 use Rattle.pm_wide.specs.Types.{Word}
@@ -15,7 +14,7 @@ use Rattle.gim_ast.specs.Identifiers.{is_anonymous, anonymous}
 use Rattle.lexing.specs.Numbers.{is_number_text}
 use Rattle.gim_printer.specs.Printing.{assigned_text}
 use Rattle.gim_ast.specs.Readable.{is_initial}
-use Rattle.gim_ast.specs.WellFormed.{same_text, ident_of, is_assigned, base_holds, declares_as}
+use Rattle.gim_ast.specs.WellFormed.{same_text, ident_of, is_assigned, base_holds}
 use Rattle.lexing.proofs.NumberLemmas.{decimal_is_number_text}
 use Rattle.pm_places.specs.declared.span.Span.{Span}
 use Rattle.gim_text.specs.declared.occurrence.Occurrence.{Occurrence}
@@ -29,7 +28,7 @@ use Rattle.gim_making.specs.Names.{is_default}
 use Rattle.gim_making.proofs.Membership.{Has, has_map, from_map, any_has, any_from_has}
 use Rattle.gim_making.proofs.PartLemmas.{same_text_is}
 use Rattle.gim_round_trip.proofs.tree.FunctionParts.{Part, parameter, local, head, jump, assigns, reads, parts_of, PartIs, part_is, local_there, name_there, operand_there}
-use Rattle.gim_round_trip.proofs.tree.Occurrences.{Saying, a_local, an_assigned, an_operand, a_name, told, said, occurrences_say}
+use Rattle.gim_round_trip.proofs.tree.Occurrences.{a_local, an_assigned, an_operand, a_name, told, said, occurrences_say}
 use Rattle.gim_round_trip.proofs.tree.Rows.{name_facts, row_found, assigned_is_not_initial, used_is_assigned, local_row, bare_row, declared_as}
 use Rattle.gim_round_trip.proofs.tree.SmallNumbers.{numbers_small, jumps_small}
 use Rattle.gim_round_trip.proofs.tree.WellFormedParts.{each_operand_holds, operand_row, assigned_row}
