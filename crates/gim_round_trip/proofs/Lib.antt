@@ -1,6 +1,5 @@
 pub mod PrintedFunctions
 pub mod ReadFunctions
-pub mod RisingNames
 pub mod rules
 pub mod text
 pub mod tree

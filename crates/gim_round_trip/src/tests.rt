@@ -121,7 +121,7 @@ const OTHERS: [&str; 6] = [
 ];
 
 /// Reads a text, and prints what it stands for.
-#[tactic(auto, using(crate::proofs::RisingNames::all_rise))]
+#[tactic(auto, using(gim_ast::proofs::RisingNames::all_rise_where_well_formed))]
 fn printed(alloc: Global, source: &[u8]) -> Result<Vec<u8>, Fail> {
     let functions = read(alloc, source)?;
     Ok(print(alloc, functions.as_slice())?)

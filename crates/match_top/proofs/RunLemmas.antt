@@ -1,25 +1,15 @@
--- What `check` and `run` need: valid functions may be printed, and words for parameters.
+-- What `run` needs: words for parameters, and the function of a name.
 use Rattle.std.proofs.Common.{◌≡◌, ◌≢◌, ℕ, zero, suc, List, [], ◌∷◌, ◌++◌, length, map, Option, Some, None, Bool, true, false, ◌+◌, ◌<◌, get_or, drop, drop-cons, subst, refl, sym, ap, ◌∙◌, arith}
 use Rattle.std.specs.List.{AllByRecursion}
-use Rattle.std.specs.Prelude.{All, IsTrue, option_map, ℤ, cond}
+use Rattle.std.specs.Prelude.{option_map, ℤ, cond}
 use Rattle.pm_wide.specs.Types.{Ty, Word, in_range, word}
 use Rattle.gim_ast.specs.declared.function.Function.{Function}
 use Rattle.gim_ast.specs.declared.function.Decl.{Decl}
-use Rattle.gim_ast.specs.WellFormed.{names_rise}
 use Rattle.gim_ast.specs.Readable.{IsValid}
-use Rattle.gim_ast.proofs.RisingNames.{names_rise_where_well_formed}
 use Rattle.gim_run.specs.Slots.{types_of_words}
 use Rattle.gim_run.specs.Arguments.{AreArguments}
 use Rattle.gim_text.specs.Literals.{word_in}
 use Rattle.match_top.specs.Run.{number_of_value, and_arguments, arguments_of, is_named, function_named}
-
-pub valid_rises : (f : Function) → IsValid f → IsTrue (names_rise f)
-valid_rises f valid = names_rise_where_well_formed f valid.well_formed
-
-pub all_rise : (fs : List Function) → AllByRecursion IsValid fs → All (λ f. IsTrue (names_rise f)) fs
-all_rise [] valid k d within = absurd (omega arith)
-all_rise (f ∷ fs) valid zero d within = valid_rises f valid.0
-all_rise (f ∷ fs) valid (suc k) d within = all_rise fs valid.1 k d (omega arith)
 
 -- ---- arguments
 

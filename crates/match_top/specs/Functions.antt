@@ -1,5 +1,5 @@
 -- Whole GIMPLE files: which are accepted, and why the others are refused.
-use Rattle.std.specs.Prelude.{◌≡◌, ℕ, min, Bool, true, false, if◌then◌else◌, Option, Some, None, List, [], ◌∷◌, ◌++◌, length, take, drop, codes, decimal}
+use Rattle.std.specs.Prelude.{◌≡◌, ℕ, Bool, true, false, if◌then◌else◌, Option, Some, None, List, [], ◌∷◌, ◌++◌, take, drop, codes, decimal}
 use Rattle.std.specs.List.{AllByRecursion}
 use Rattle.pm_places.specs.Places.{line_of, column_of}
 use Rattle.gim_ast.specs.declared.function.Function.{Function}
@@ -53,9 +53,9 @@ names_its_token kind = false
 abbrev pub named_token : List ℕ → GimpleFault → Option (List ℕ)
 named_token source fault = if names_its_token fault.kind then Some (take fault.len (drop fault.at source)) else None
 
--- the line and the column of a byte. A place past the end, which no fault has, would count as the end
+-- the line and the column of a byte
 abbrev pub place_in : List ℕ → ℕ → ℕ × ℕ
-place_in source at = (line_of source (min at (length source)), column_of source (min at (length source)))
+place_in source at = (line_of source at, column_of source at)
 
 abbrev pub gimple_fault_text : List ℕ → GimpleFault → List ℕ
 gimple_fault_text source fault = fault_text (codes "gimple") (Some (place_in source fault.at)) (kind_text fault.kind) (named_token source fault)

@@ -1,11 +1,12 @@
 //! The lines of refusals of GIMPLE files.
-ghost use Rattle.std.specs.Prelude.{◌≡◌, ◌++◌, ◌<◌, ◌^◌, length, IfOk};
+ghost use Rattle.std.specs.Prelude.{◌≡◌, ◌⊎◌, ◌++◌, ◌+◌, ◌<◌, ◌≤◌, ◌^◌, length, IfOk};
 ghost use Rattle.std.specs.Option.{option_copied};
 ghost use Rattle.gim_ast.specs.WellFormed.{IsWellFormed};
 ghost use Rattle.match_top.specs.Answer.{refusal, OrMemory};
-ghost use Rattle.match_top.specs.Functions.{kind_text, names_its_token, named_token, place_in, unreadable_text};
+ghost use Rattle.match_top.specs.Functions.{kind_text, names_its_token, named_token, unreadable_text};
 ghost use Rattle.match_top.specs.Invalid.{EndsAtFault};
 ghost use Rattle.match_top.specs.Refusals.{line};
+ghost use Rattle.gim_text.specs.declared.fault.GimpleKind.TheVariants.{Memory};
 ghost use Rattle.match_top.specs.declared.status.Cause.TheVariants.{BadFunctions};
 
 use crate::answer::Stop;
@@ -22,13 +23,14 @@ use std::alloc::Global;
 
 /// The refusal of a file for its first fault, or want of memory.
 pub fn at_fault(alloc: Global, source: &[u8], fault: &GimpleFault) -> Stop
-    requires { length source.now < 2 ^ 31 }
+    requires short { length source.now < 2 ^ 31 }
+    requires within { (fault.now.kind ≡ Memory) ⊎ (fault.now.at + fault.now.len ≤ length source.now) }
     ensures { EndsAtFault fault.now.kind source.now fault.now result }
 {
     if let GimpleKind::Memory = fault.kind {
         return Stop::Memory;
     }
-    let place = place_in(source, fault.at);
+    let place = line_column(source, fault.at);
     let token = named_token(source, fault);
     faulty(
         alloc,
@@ -37,14 +39,6 @@ pub fn at_fault(alloc: Global, source: &[u8], fault: &GimpleFault) -> Stop
         kind_text(fault.kind),
         token,
     )
-}
-
-/// The line and the column of a byte.
-fn place_in(source: &[u8], at: usize) -> (u32, u32)
-    requires { length source.now < 2 ^ 31 }
-    ensures { result ≡ place_in source.now at }
-{
-    line_column(source, at.min(source.len()))
 }
 
 /// The token, where the kind of fault names it.

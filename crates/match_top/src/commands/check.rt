@@ -49,7 +49,7 @@ pub fn answer<I: Inputs>(alloc: Global, inputs: &mut I, command: &Check) -> Resu
 }
 
 /// The text of the functions.
-#[tactic(auto, using(crate::proofs::RunLemmas::all_rise))]
+#[tactic(auto, using(gim_ast::proofs::RisingNames::all_rise_where_valid))]
 fn printed(alloc: Global, functions: &[Function]) -> Result<Output, Stop>
     requires { AllByRecursion IsValid functions.now }
     ensures { IsOrMemory (checked functions.now) result }

@@ -227,7 +227,7 @@ fn undefined(alloc: Global, function: &Function, name: u32) -> Stop
 }
 
 /// The line of a statement without a value.
-#[tactic(auto, using(crate::proofs::RunLemmas::valid_rises))]
+#[tactic(auto, using(gim_ast::proofs::RisingNames::names_rise_where_valid))]
 fn undefined_line(alloc: Global, function: &Function, name: u32) -> Result<Items<u8>, OutOfMemory>
     requires { IsValid function.now }
     ensures { IfOk result (λ text. text ≡ line (codes "undefined " ++ function.now.name ++ codes " " ++ assigned_text function.now name)) }
