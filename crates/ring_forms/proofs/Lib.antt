@@ -1,3 +1,6 @@
 pub mod AtomLemmas
+pub mod FormBounds
 pub mod FormLemmas
+pub mod FormValues
+pub mod Tables
 pub mod TermLemmas

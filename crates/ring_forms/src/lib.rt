@@ -6,5 +6,7 @@ mod atom;
 mod equal;
 mod form;
 mod ring;
+#[cfg(test)]
+mod tests;
 
 pub use equal::ring_equal;
