@@ -1,5 +1,5 @@
 -- Which numbers stand in forms, and that they alone decide their values.
-use Rattle.std.proofs.Common.{◌≡◌, ℕ, suc, ◌≤◌, ◌<◌, ◌==◌, ◌^◌, Bool, true, false, cond, Option, Some, None, List, [], ◌∷◌, refl, ap, ◌∙◌, arith}
+use Rattle.std.proofs.Common.{◌≡◌, ℕ, ◌≤◌, ◌<◌, ◌==◌, ◌^◌, Bool, true, false, cond, Option, Some, None, List, [], ◌∷◌, refl, ap, arith}
 use Rattle.std.specs.Prelude.{ℤ, pos, negsuc, ◌+ℤ◌, ◌*ℤ◌, nat_le, ⊤, map}
 use Rattle.std.specs.Cmp.Lexicographic.{slice_cmp}
 use Rattle.std.specs.Ordering.{nat_cmp}
@@ -14,7 +14,7 @@ use Rattle.ring_forms.specs.declared.atom.Atom.{Atom}
 use Rattle.ring_forms.specs.declared.atom.Atom.TheVariants.{Name, Operation}
 use Rattle.ring_forms.specs.declared.atom.AtomOperand.{AtomOperand}
 use Rattle.ring_forms.specs.declared.form.Part.{Part}
-use Rattle.ring_forms.specs.Forms.{part_of, placed, with_part, with_product, constant_form, atom_form, sum_form, negated_form, with_atom, joined_atoms, part_times, form_times, product_form}
+use Rattle.ring_forms.specs.Forms.{part_of, placed, with_part, with_product, constant_form, sum_form, negated_form, with_atom, joined_atoms, part_times, form_times}
 use Rattle.ring_forms.specs.RingForms.{unary_form, binary_form}
 use Rattle.ring_forms.proofs.FormValues.{atoms_value, form_value}
 

@@ -1,6 +1,6 @@
 -- The value of a form where each atom has a whole number, and what sums and products of forms do
 -- to it modulo 2 ^ m.
-use Rattle.std.proofs.Common.{◌≡◌, ℕ, zero, suc, ◌^◌, ◌<◌, ◌==◌, Bool, true, false, cond, List, [], ◌∷◌, refl, sym, ap, subst, ◌∙◌, arith}
+use Rattle.std.proofs.Common.{◌≡◌, ℕ, ◌==◌, Bool, true, false, cond, List, [], ◌∷◌, refl, sym, ap, subst, ◌∙◌, arith}
 use Rattle.std.specs.Prelude.{ℤ, pos, neg_ℤ, ◌+ℤ◌, ◌-ℤ◌, ◌*ℤ◌, nat_le}
 use Rattle.std.specs.Cmp.Lexicographic.{slice_cmp}
 use Rattle.std.specs.Ordering.{nat_cmp}
@@ -10,7 +10,7 @@ use Rattle.std.proofs.lemmas.Int.{ints}
 use borrow.Author.Tests.{eqb-true}
 use Rattle.pm_wide.specs.Congruence.{Congruent}
 use Rattle.pm_wide.specs.Residues.{residue}
-use Rattle.pm_wide.proofs.Congruence.{same, turned, joined, sums, differences, negatives, times, products}
+use Rattle.pm_wide.proofs.Congruence.{same, joined, sums, times}
 use Rattle.pm_wide.proofs.Residues.{residue_congruent}
 use Rattle.pm_wide.proofs.Whole.{mul_comm, mul_assoc, add-mul, mul-add, neg-mul, one-mul, mul-one}
 use Rattle.ring_forms.specs.declared.form.Part.{Part}

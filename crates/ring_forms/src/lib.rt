@@ -5,6 +5,7 @@ mod arithmetic;
 mod atom;
 mod equal;
 mod form;
+pub mod laws;
 mod ring;
 #[cfg(test)]
 mod tests;
