@@ -1,19 +1,19 @@
 -- A term of the class balances: its words where names are cut off above a place and where they are
 -- 0 add up to its words where they are cut off below it and where they have that place alone.
-use Rattle.std.proofs.Common.{◌≡◌, ℕ, suc, ◌-◌, ◌^◌, ◌<◌, true, false, List, [], ◌∷◌, refl, sym, ap, subst, ◌∙◌, ◌⊎◌, inl, inr, arith}
+use Rattle.std.proofs.Common.{◌≡◌, ℕ, ◌^◌, ◌<◌, false, ◌∷◌, refl, sym, ap, subst, ◌⊎◌, inl, inr, arith}
 use Rattle.std.specs.Prelude.{ℤ, pos, ◌+ℤ◌, ◌-ℤ◌, ◌*ℤ◌, IsTrue}
 use Rattle.std.proofs.lemmas.Int.{ints}
 use Rattle.std.proofs.lemmas.Nat.{pow_pos}
 use Rattle.pm_ops.specs.declared.code.Code.{Code}
 use Rattle.pm_ops.specs.declared.code.Code.TheVariants.{Convert, Plus, Minus, Mult, Negate, BitAnd, BitIor, BitXor, BitNot}
 use Rattle.pm_wide.specs.Congruence.{Congruent}
-use Rattle.pm_wide.specs.Types.{Ty, Word, IsType, IsWord}
+use Rattle.pm_wide.specs.Types.{Ty, Word, IsWord}
 use Rattle.pm_wide.proofs.Congruence.{same, turned, joined, sums, differences, products}
 use Rattle.pm_wide.proofs.Whole.{mul-add, mul_comm}
 use Rattle.pm_wide.specs.Residues.{residue}
 use Rattle.pm_wide.proofs.Residues.{residue_congruent, residue-below}
 use Rattle.pm_term.specs.Trees.{Tree, name, constant, node, Trees, nil, cons, IsWellTyped}
-use Rattle.bit_tables.specs.TableClass.{keeps_to_bits, IsConstant, AreConstant, HasConstant, IsBitwise, AreBitwise, IsBuiltBy, IsBuilt, AreBuilt}
+use Rattle.bit_tables.specs.TableClass.{keeps_to_bits, IsConstant, AreConstant, HasConstant, IsBitwise, IsBuilt}
 use Rattle.bit_tables.specs.WrappedWords.{wrapped_unary, wrapped_binary, wrapped_operation, wrapped_word, wrapped_words}
 use Rattle.bit_tables.proofs.Crossing.{Four, four_same, four_and, four_or, four_xor, four_not, crossed_sum}
 

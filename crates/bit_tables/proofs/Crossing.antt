@@ -1,6 +1,6 @@
 -- Four numbers of which two and two agree but at one place, where they are crossed: bits of such
 -- numbers give such numbers, and their sums are equal.
-use Rattle.std.proofs.Common.{◌≡◌, ℕ, zero, suc, ◌+◌, ◌-◌, ◌*◌, ◌/◌, ◌%◌, ◌^◌, ◌≤◌, ◌<◌, refl, sym, ap, subst, ◌∙◌, arith, add-one}
+use Rattle.std.proofs.Common.{◌≡◌, ℕ, zero, suc, ◌+◌, ◌-◌, ◌*◌, ◌/◌, ◌%◌, ◌^◌, ◌≤◌, ◌<◌, refl, sym, ap, subst, ◌∙◌, arith}
 use Rattle.std.specs.Prelude.{bit_and, bit_or, bit_xor}
 use Rattle.std.specs.Int.Bits.{and_shr, or_shr, xor_shr, and_mod, or_mod, xor_mod, shifted_half, shifted_even, xor_add_and, and_mask}
 use Rattle.std.proofs.lemmas.Nat.{mod-pow-add, div-add-mod', and_le_l, or_lt, xor_lt, pow_pos}

@@ -5,6 +5,7 @@
 #![tactic(auto)]
 
 mod class;
+pub mod laws;
 mod names;
 mod table;
 #[cfg(test)]

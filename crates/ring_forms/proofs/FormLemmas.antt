@@ -32,7 +32,7 @@ pub numbers_same : (xs ys : List ℕ) → xs ≡ ys → pointwise nat_eq xs ys �
 numbers_same xs ys h = (pointwise_decides Decides-eqb xs ys).1 h
 
 -- one list of atoms exactly where the order says so
-equal_is : (xs ys : List ℕ) → slice_cmp nat_cmp xs ys ≡ Equal → xs ≡ ys
+pub equal_is : (xs ys : List ℕ) → slice_cmp nat_cmp xs ys ≡ Equal → xs ≡ ys
 equal_is xs ys h = same_numbers xs ys (texts_ties xs ys ∙ ap is_eq h)
 
 is_equal : (xs ys : List ℕ) → ys ≡ xs → is_eq (slice_cmp nat_cmp xs ys) ≡ true

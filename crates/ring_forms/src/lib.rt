@@ -5,6 +5,9 @@ mod arithmetic;
 mod atom;
 mod equal;
 mod form;
+pub mod laws;
 mod ring;
+#[cfg(test)]
+mod tests;
 
 pub use equal::ring_equal;
