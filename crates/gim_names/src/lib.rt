@@ -24,7 +24,11 @@ use std::alloc::Global;
 use std::collections::HashSet;
 
 /// Judges the occurrences of a function, each by those before it.
-fn check_occurrences(alloc: Global, source: &[u8], occurrences: &[Occurrence]) -> Result<(), GimpleFault>
+fn check_occurrences(
+    alloc: Global,
+    source: &[u8],
+    occurrences: &[Occurrence],
+) -> Result<(), GimpleFault>
     ensures { Judges (occurrences_fault source.now occurrences.now) result }
 {
     let scope = Scope::of(alloc, source, occurrences)?;

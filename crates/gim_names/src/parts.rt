@@ -124,7 +124,10 @@ pub(crate) fn default_version<'a>(source: &'a [u8], occurrence: &Occurrence) -> 
 }
 
 /// The version and the base of a name, or of a local that is an anonymous name.
-pub(crate) fn version_base<'a>(source: &'a [u8], occurrence: &Occurrence) -> Option<(&'a [u8], &'a [u8])>
+pub(crate) fn version_base<'a>(
+    source: &'a [u8],
+    occurrence: &Occurrence,
+) -> Option<(&'a [u8], &'a [u8])>
     ensures { option_map (λ x. (x.0.now, x.1.now)) result ≡ parts.version_base source.now occurrence.now }
 {
     match occurrence {
@@ -137,7 +140,10 @@ pub(crate) fn version_base<'a>(source: &'a [u8], occurrence: &Occurrence) -> Opt
 }
 
 /// The base and the version of a default definition.
-pub(crate) fn base_default<'a>(source: &'a [u8], occurrence: &Occurrence) -> Option<(&'a [u8], &'a [u8])>
+pub(crate) fn base_default<'a>(
+    source: &'a [u8],
+    occurrence: &Occurrence,
+) -> Option<(&'a [u8], &'a [u8])>
     ensures { option_map (λ x. (x.0.now, x.1.now)) result ≡ parts.base_default source.now occurrence.now }
 {
     match occurrence {

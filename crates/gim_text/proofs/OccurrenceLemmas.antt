@@ -148,7 +148,7 @@ module _ {X : Type 0} (says : Occurrence → Option X) (h : IsOfHeads says) wher
   said_at_heads f =
       filter_map-append says (map occurrence_of_parameter f.params ++ map occurrence_of_local f.decls) (flat_map occurrences_of_block f.blocks)
       ∙ ap (λ xs. xs ++ filter_map says (flat_map occurrences_of_block f.blocks))
-        (filter_map-append says (map occurrence_of_parameter f.params) (map occurrence_of_local f.decls)
-        ∙ ap (λ xs. xs ++ filter_map says (map occurrence_of_local f.decls)) (filter_of_map says occurrence_of_parameter f.params)
-        ∙ ap (λ xs. filter_map (λ (decl : DeclText). says (Parameter decl.ident)) f.params ++ xs) (filter_of_map says occurrence_of_local f.decls))
+      (filter_map-append says (map occurrence_of_parameter f.params) (map occurrence_of_local f.decls)
+      ∙ ap (λ xs. xs ++ filter_map says (map occurrence_of_local f.decls)) (filter_of_map says occurrence_of_parameter f.params)
+      ∙ ap (λ xs. filter_map (λ (decl : DeclText). says (Parameter decl.ident)) f.params ++ xs) (filter_of_map says occurrence_of_local f.decls))
       ∙ ap (λ xs. (filter_map (λ (decl : DeclText). says (Parameter decl.ident)) f.params ++ filter_map (λ (decl : DeclText). says (Local decl.ident)) f.decls) ++ xs) (of_blocks f.blocks)
