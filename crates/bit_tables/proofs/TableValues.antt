@@ -1,9 +1,8 @@
 -- The value of a term of the class, where it has one, is the word that wraps.
-use Rattle.std.proofs.Common.{◌≡◌, ℕ, ◌-◌, ◌%◌, ◌^◌, ◌<◌, Bool, true, false, Option, Some, None, List, [], ◌∷◌, refl, sym, ap, subst, ◌∙◌, arith}
+use Rattle.std.proofs.Common.{◌≡◌, ℕ, ◌-◌, ◌%◌, ◌^◌, ◌<◌, true, false, Option, Some, None, [], refl, sym, ap, subst, ◌∙◌, arith}
 use Rattle.std.specs.Prelude.{ℤ, pos, neg_ℤ, ◌+ℤ◌, ◌-ℤ◌, ◌*ℤ◌, IsTrue, bit_and, bit_or, bit_xor}
 use Rattle.std.specs.Int.{int_rem_euclid}
 use Rattle.std.specs.Int.RustNames.{unsigned_abs}
-use Rattle.std.proofs.lemmas.Bool.{and_parts}
 use Rattle.std.proofs.Math.Nat.{mod-eq_of_lt, mod-lt}
 use Rattle.std.proofs.lemmas.Int.{ints}
 use Rattle.std.proofs.lemmas.Nat.{pow_pos}
@@ -12,13 +11,12 @@ use Rattle.pm_ops.specs.declared.code.Code.TheVariants.{Convert, Plus, Minus, Mu
 use Rattle.pm_wide.specs.Congruence.{Congruent}
 use Rattle.pm_wide.specs.Operations.{operation_value, unary_value, binary_value}
 use Rattle.pm_wide.specs.Residues.{residue}
-use Rattle.pm_wide.specs.Types.{Ty, Word, IsType, IsWord, same_type, value, word, word_of}
-use Rattle.pm_wide.specs.Typing.{well_typed_operation, well_typed_unary, well_typed_binary, well_typed_ternary}
+use Rattle.pm_wide.specs.Types.{Ty, Word, IsType, IsWord, value, word, word_of}
+use Rattle.pm_wide.specs.Typing.{well_typed_operation, well_typed_unary, well_typed_ternary}
 use Rattle.pm_wide.proofs.Congruence.{same, sums, differences, products}
-use Rattle.pm_wide.proofs.Results.{same_type_is}
 use Rattle.pm_wide.proofs.Values.{exact_cases}
 use Rattle.pm_wide.proofs.Words.{same_word, value_congruent}
-use Rattle.pm_term.specs.Terms.{operation_on, with_value, term_value, term_values}
+use Rattle.pm_term.specs.Terms.{operation_on, with_value, term_value}
 use Rattle.pm_term.specs.Trees.{Tree, name, constant, node, Trees, nil, cons, type_of, IsWellTyped}
 use Rattle.pm_term.proofs.TermLaws.{values_are_words}
 use Rattle.bit_tables.specs.TableClass.{HasConstant, keeps_to_bits, IsBitwise, AreBitwise, IsBuiltBy, IsBuilt, AreBuilt}
