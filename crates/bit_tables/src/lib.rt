@@ -8,8 +8,6 @@ mod class;
 pub mod laws;
 mod names;
 mod table;
-#[cfg(test)]
-mod tests;
 mod words;
 
 pub use table::table_equal;

@@ -7,7 +7,5 @@ mod equal;
 mod form;
 pub mod laws;
 mod ring;
-#[cfg(test)]
-mod tests;
 
 pub use equal::ring_equal;

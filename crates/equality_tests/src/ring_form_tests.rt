@@ -1,67 +1,13 @@
-//! Ring forms worked by hand, at every width and sign.
-use crate::ring_equal;
+//! Terms of one ring form and others, at every width and sign.
+
+use crate::terms::{term, two, types};
 use pm_items::Items;
 use pm_ops::Code;
 use pm_term::{BuildFault, Typed};
-use pm_wide::{IntType, Operand, Wide};
+use pm_wide::IntType;
+use ring_forms::ring_equal;
 use std::alloc::Global;
 use std::process::Abort;
-use std::test::Fail;
-
-/// The term of a text, read from left to right with the operands first: a letter is a name, a digit
-/// a constant, `n` a negative, `s` a conversion to the other sign.
-fn term(alloc: Global, text: &str, ty: IntType) -> Result<Typed, BuildFault> {
-    let mut made: Vec<Typed> = Vec::new(alloc);
-    for c in text.bytes() {
-        let term = match c {
-            b'~' => one(alloc, Code::BitNot, ty, &mut made)?,
-            b'n' => one(alloc, Code::Negate, ty, &mut made)?,
-            b's' => converted(alloc, ty, &mut made)?,
-            b'+' => two(alloc, Code::Plus, ty, &mut made)?,
-            b'-' => two(alloc, Code::Minus, ty, &mut made)?,
-            b'*' => two(alloc, Code::Mult, ty, &mut made)?,
-            b'/' => two(alloc, Code::TruncDiv, ty, &mut made)?,
-            b'<' => two(alloc, Code::Lshift, ty, &mut made)?,
-            b'&' => two(alloc, Code::BitAnd, ty, &mut made)?,
-            b'|' => two(alloc, Code::BitIor, ty, &mut made)?,
-            b'^' => two(alloc, Code::BitXor, ty, &mut made)?,
-            b'0'..=b'9' => Typed::leaf(Operand::Const(Wide::reduce(u128::from(c - b'0'), ty))),
-            _ => Typed::leaf(Operand::Name(u32::from(c), ty)),
-        };
-        made.push(term)?;
-    }
-    popped(&mut made)
-}
-
-/// The last term that was made.
-fn popped(made: &mut Vec<Typed>) -> Result<Typed, BuildFault> {
-    made.pop().ok_or(BuildFault::IllTyped)
-}
-
-/// An operation on the last term.
-fn one(alloc: Global, code: Code, ty: IntType, made: &mut Vec<Typed>) -> Result<Typed, BuildFault> {
-    let a = popped(made)?;
-    Typed::build(alloc, code, ty, Items::from_vec(vec![in alloc; a]?))
-}
-
-/// The last term as one of the other sign, and back.
-fn converted(alloc: Global, ty: IntType, made: &mut Vec<Typed>) -> Result<Typed, BuildFault> {
-    let other = IntType::new(ty.bits(), !ty.unsigned()).unwrap_or(ty);
-    let a = one(alloc, Code::Convert, other, made)?;
-    Typed::build(
-        alloc,
-        Code::Convert,
-        ty,
-        Items::from_vec(vec![in alloc; a]?),
-    )
-}
-
-/// An operation on the last two terms.
-fn two(alloc: Global, code: Code, ty: IntType, made: &mut Vec<Typed>) -> Result<Typed, BuildFault> {
-    let b = popped(made)?;
-    let a = popped(made)?;
-    Typed::build(alloc, code, ty, Items::from_vec(vec![in alloc; a, b]?))
-}
 
 /// Looks whether two texts have one ring form at this type.
 fn judge(
@@ -76,22 +22,6 @@ fn judge(
     let r = term(alloc, right, ty)?;
     assert_eq!(rt; ring_equal(alloc, &l, &r)?, answer, "{left} {right} {ty:?}");
     Ok(())
-}
-
-fn types() -> [IntType; 11] {
-    [
-        IntType::boolean(),
-        IntType::signed_char(),
-        IntType::unsigned_char(),
-        IntType::short(),
-        IntType::unsigned_short(),
-        IntType::int(),
-        IntType::unsigned_int(),
-        IntType::long(),
-        IntType::unsigned_long(),
-        IntType::int128(),
-        IntType::unsigned_int128(),
-    ]
 }
 
 /// Two texts, and whether they have one ring form in every type.
@@ -168,34 +98,55 @@ fn rows_of_some_types(rt: HostRuntime) -> Result<(), BuildFault> {
     judge(&rt, alloc, "xs1+s", "xss1+", small, true)
 }
 
+/// The term of a text as one of another type.
+fn narrowed_text(
+    alloc: Global,
+    text: &str,
+    from: IntType,
+    to: IntType,
+) -> Result<Typed, BuildFault> {
+    narrowed(alloc, term(alloc, text, from)?, to)
+}
+
+/// The sum of two names that are converted each.
+fn sum_of_narrowed(alloc: Global, from: IntType, to: IntType) -> Result<Typed, BuildFault> {
+    let mut parts = Vec::new(alloc);
+    parts.push(narrowed_text(alloc, "x", from, to)?)?;
+    parts.push(narrowed_text(alloc, "y", from, to)?)?;
+    two(alloc, Code::Plus, to, &mut parts)
+}
+
 #[test]
-fn conversions(rt: HostRuntime) -> Result<(), BuildFault> {
-    let alloc = rt.alloc();
-    let int = IntType::int();
-    let long = IntType::long();
+fn a_sum_is_narrowed_by_parts(rt: HostRuntime) -> Result<(), BuildFault> {
+    let sum = narrowed_text(rt.alloc(), "xy+", IntType::long(), IntType::int())?;
+    let parts = sum_of_narrowed(rt.alloc(), IntType::long(), IntType::int())?;
+    assert!(rt; ring_equal(rt.alloc(), &sum, &parts)?);
+    Ok(())
+}
+
+#[test]
+fn a_sum_is_not_widened_by_parts(rt: HostRuntime) -> Result<(), BuildFault> {
+    let sum = narrowed_text(rt.alloc(), "xy+", IntType::int(), IntType::long())?;
+    let parts = sum_of_narrowed(rt.alloc(), IntType::int(), IntType::long())?;
+    assert!(rt; !ring_equal(rt.alloc(), &sum, &parts)?);
+    Ok(())
+}
+
+#[test]
+fn narrowing_twice_is_narrowing(rt: HostRuntime) -> Result<(), BuildFault> {
     let byte = IntType::unsigned_char();
-    let sum = narrowed(alloc, term(alloc, "xy+", long)?, int)?;
-    let mut parts = vec![in alloc;
-        narrowed(alloc, term(alloc, "x", long)?, int)?,
-        narrowed(alloc, term(alloc, "y", long)?, int)?,
-    ]?;
-    let of_parts = two(alloc, Code::Plus, int, &mut parts)?;
-    assert!(rt; ring_equal(alloc, &sum, &of_parts)?);
-    let twice = narrowed(
-        alloc,
-        narrowed(alloc, term(alloc, "xy+", long)?, int)?,
-        byte,
-    )?;
-    let once = narrowed(alloc, term(alloc, "yx+", long)?, byte)?;
-    assert!(rt; ring_equal(alloc, &twice, &once)?);
-    let wider = narrowed(alloc, term(alloc, "xy+", int)?, long)?;
-    let mut wide_parts = vec![in alloc;
-        narrowed(alloc, term(alloc, "x", int)?, long)?,
-        narrowed(alloc, term(alloc, "y", int)?, long)?,
-    ]?;
-    let of_wide_parts = two(alloc, Code::Plus, long, &mut wide_parts)?;
-    assert!(rt; !ring_equal(alloc, &wider, &of_wide_parts)?);
-    assert!(rt; !ring_equal(alloc, &term(alloc, "x", int)?, &term(alloc, "x", long)?)?);
+    let half = narrowed_text(rt.alloc(), "xy+", IntType::long(), IntType::int())?;
+    let twice = narrowed(rt.alloc(), half, byte)?;
+    let once = narrowed_text(rt.alloc(), "yx+", IntType::long(), byte)?;
+    assert!(rt; ring_equal(rt.alloc(), &twice, &once)?);
+    Ok(())
+}
+
+#[test]
+fn terms_of_two_types_are_not_one(rt: HostRuntime) -> Result<(), BuildFault> {
+    let left = term(rt.alloc(), "x", IntType::int())?;
+    let right = term(rt.alloc(), "x", IntType::long())?;
+    assert!(rt; !ring_equal(rt.alloc(), &left, &right)?);
     Ok(())
 }
 
