@@ -1,0 +1,99 @@
+-- A source is cut in one way, and its tokens stand one behind the other.
+use Rattle.std.proofs.Common.{◌≡◌, ℕ, zero, suc, ◌-◌, ◌<◌, ◌≤◌, ◌⊎◌, inl, inr, List, [], ◌∷◌, ◌++◌, length, Option, Some, None, refl, sym, ap, ◌∙◌, subst, arith}
+use Rattle.std.proofs.lemmas.Bool.{cases_lt}
+use Rattle.pm_ops.specs.declared.fault.PatternFault.{PatternFault}
+use Rattle.pm_places.specs.FirstFaults.{first_fault}
+use Rattle.pd_lexer.specs.declared.token.Token.{Token}
+use Rattle.pd_lexer.specs.declared.pieces.Piece.{Piece}
+use Rattle.pd_lexer.specs.declared.pieces.Piece.TheVariants as pieces
+use Rattle.pd_lexer.specs.Cuts.{Cuts, faults, token_of, tokens_of, AreTokens, IsLexFault, HasOutcome}
+use Rattle.pd_lexer.specs.Levels.{Levels, ground}
+use Rattle.pd_lexer.specs.Pieces.{piece_at, end_of, levels_after}
+use Rattle.pd_lexer.specs.Spelled.{AllStandIn, InOrder, AreTokensOf}
+use Rattle.pd_lexer.proofs.Sound.{IsSound, sound_piece}
+
+-- ---- one way
+
+pub one_cut : (source : List ℕ) (levels : Levels) (at : ℕ) (ps qs : List Piece) → Cuts source levels at ps → Cuts source levels at qs → ps ≡ qs
+one_cut source levels at [] [] p q = refl
+one_cut source levels at [] (b ∷ qs) p q = absurd (omega (arith, p, q.0))
+one_cut source levels at (a ∷ ps) [] p q = absurd (omega (arith, p.0, q))
+one_cut source levels at (a ∷ ps) (b ∷ qs) p q =
+    let same : b ≡ a = sym q.1 ∙ p.1 in
+    let rest : Cuts source (levels_after levels a) (end_of a) qs = subst (λ c. Cuts source (levels_after levels c) (end_of c) qs) same q.2 in
+    ap (λ c. c ∷ ps) (sym same) ∙ ap (λ cs. b ∷ cs) (one_cut source (levels_after levels a) (end_of a) ps qs p.2 rest)
+
+cut_from : (source : List ℕ) (left : ℕ) (levels : Levels) (at : ℕ) → at ≤ length source → length source - at ≤ left
+    → (ps : List Piece) × Cuts source levels at ps
+cut_from source zero levels at le few = ([], omega arith)
+cut_from source (suc left) levels at le few =
+    by (cases_lt at (length source)) (λ within few. cut_from source left (levels_after levels (piece_at source levels at)) (end_of (piece_at source levels at)) within few) where
+      by : (at < length source) ⊎ (length source ≤ at)
+          → (end_of (piece_at source levels at) ≤ length source → length source - end_of (piece_at source levels at) ≤ left
+          → (ps : List Piece) × Cuts source (levels_after levels (piece_at source levels at)) (end_of (piece_at source levels at)) ps)
+          → (ps : List Piece) × Cuts source levels at ps
+      by (inr ge) further = ([], omega arith)
+      by (inl lt) further =
+          let sound = sound_piece source levels at lt in
+          let rest = further sound.within (omega (arith, sound.ends, sound.within)) in
+          (piece_at source levels at ∷ rest.0, (lt, refl, rest.1))
+
+-- from each place in each levels there is a way to the end
+pub some_cut : (source : List ℕ) (levels : Levels) (at : ℕ) → at ≤ length source → (ps : List Piece) × Cuts source levels at ps
+some_cut source levels at le = cut_from source (length source - at) levels at le (omega arith)
+
+-- ---- tokens and first faults
+
+pub same_tokens : (source : List ℕ) (ts us : List Token) → AreTokens source ts → AreTokens source us → ts ≡ us
+same_tokens source ts us p q = p.are ∙ ap tokens_of (one_cut source ground 0 p.pieces q.pieces p.cut q.cut) ∙ sym q.are
+
+some_is : {X : Type 0} (x y : X) → Some x ≡ Some y → x ≡ y
+some_is x y e = cc
+
+none_some : {X : Type 0} (x : X) → None ≡ Some x → ⊥
+none_some x e = cc
+
+pub same_fault : (source : List ℕ) (a b : PatternFault) → IsLexFault source a → IsLexFault source b → a ≡ b
+same_fault source a b p q =
+    some_is a b (sym p.first ∙ ap (λ ps. first_fault (faults ps)) (one_cut source ground 0 p.pieces q.pieces p.cut q.cut) ∙ q.first)
+
+pub no_tokens : (source : List ℕ) (fault : PatternFault) (ts : List Token) → IsLexFault source fault → AreTokens source ts → ⊥
+no_tokens source fault ts p q =
+    none_some fault (sym q.sound ∙ ap (λ ps. first_fault (faults ps)) (one_cut source ground 0 q.pieces p.pieces q.cut p.cut) ∙ p.first)
+
+pub outcome : (source : List ℕ) → HasOutcome source
+outcome source = by (some_cut source ground 0 (omega arith)) where
+  by : ((ps : List Piece) × Cuts source ground 0 ps) → HasOutcome source
+  by cut = judged (first_fault (faults cut.0)) refl where
+    judged : (o : Option PatternFault) → first_fault (faults cut.0) ≡ o → HasOutcome source
+    judged None e = inl (tokens_of cut.0, record { pieces = cut.0; cut = cut.1; sound = e; are = refl })
+    judged (Some fault) e = inr (fault, record { pieces = cut.0; cut = cut.1; first = e })
+
+-- ---- where tokens stand
+
+-- of the token of a piece and those behind it, what holds of tokens in order
+starts_later : (a b to : ℕ) (ts : List Token) → a ≤ b → InOrder b ts to → InOrder a ts to
+starts_later a b to [] le h = omega arith
+starts_later a b to (t ∷ ts) le h = (omega (arith, h.0), h.1, h.2)
+
+all_stand : (source : List ℕ) (levels : Levels) (at : ℕ) (ps : List Piece) → Cuts source levels at ps
+    → AllStandIn source (tokens_of ps) × InOrder at (tokens_of ps) (length source)
+all_stand source levels at [] cut = (tt, omega (arith, cut))
+all_stand source levels at (p ∷ ps) cut =
+    let sound = subst (IsSound source at) cut.1 (sound_piece source levels at cut.0) in
+    by p sound (all_stand source (levels_after levels p) (end_of p) ps cut.2) where
+      by : (p : Piece) → IsSound source at p → (AllStandIn source (tokens_of ps) × InOrder (end_of p) (tokens_of ps) (length source))
+          → AllStandIn source (token_of p ++ tokens_of ps) × InOrder at (token_of p ++ tokens_of ps) (length source)
+      by (pieces.Token t) sound rest =
+          let stands = sound.stands t refl in
+          ((stands.1, rest.0), (omega (arith, stands.0), stands.1.has_bytes, rest.1))
+      by (pieces.Separator to) sound rest = (rest.0, starts_later at to (length source) (tokens_of ps) (omega (arith, sound.ends)) rest.1)
+      by (pieces.If holds line) sound rest = (rest.0, starts_later at line.to (length source) (tokens_of ps) (omega (arith, sound.ends)) rest.1)
+      by (pieces.Else line) sound rest = (rest.0, starts_later at line.to (length source) (tokens_of ps) (omega (arith, sound.ends)) rest.1)
+      by (pieces.EndIf line) sound rest = (rest.0, starts_later at line.to (length source) (tokens_of ps) (omega (arith, sound.ends)) rest.1)
+      by (pieces.Fault fault to) sound rest = (rest.0, starts_later at to (length source) (tokens_of ps) (omega (arith, sound.ends)) rest.1)
+
+pub tokens_stand : (source : List ℕ) (ts : List Token) → AreTokens source ts → AreTokensOf source ts
+tokens_stand source ts are =
+    let all = all_stand source ground 0 are.pieces are.cut in
+    subst (AreTokensOf source) (sym are.are) (record { stand = all.0; in_order = all.1 })

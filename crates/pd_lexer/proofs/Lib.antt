@@ -1,0 +1,6 @@
+pub mod Cutting
+pub mod Fronts
+pub mod LongestMatch
+pub mod NumberLemmas
+pub mod Scanning
+pub mod Sound
