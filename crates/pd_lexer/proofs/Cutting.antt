@@ -1,12 +1,11 @@
 -- A source is cut in one way, and its tokens stand one behind the other.
-use Rattle.std.proofs.Common.{◌≡◌, ℕ, zero, suc, ◌-◌, ◌<◌, ◌≤◌, ◌⊎◌, inl, inr, List, [], ◌∷◌, ◌++◌, length, Option, Some, None, refl, sym, ap, ◌∙◌, subst, arith}
+use Rattle.std.proofs.Common.{◌≡◌, ℕ, zero, suc, ◌-◌, ◌<◌, ◌≤◌, ◌⊎◌, inl, inr, List, [], ◌∷◌, ◌++◌, length, refl, sym, ap, ◌∙◌, subst, arith}
 use Rattle.std.proofs.lemmas.Bool.{cases_lt}
 use Rattle.pm_ops.specs.declared.fault.PatternFault.{PatternFault}
-use Rattle.pm_places.specs.FirstFaults.{first_fault}
 use Rattle.pd_lexer.specs.declared.token.Token.{Token}
 use Rattle.pd_lexer.specs.declared.pieces.Piece.{Piece}
 use Rattle.pd_lexer.specs.declared.pieces.Piece.TheVariants as pieces
-use Rattle.pd_lexer.specs.Cuts.{Cuts, faults, token_of, tokens_of, AreTokens, IsLexFault, HasOutcome}
+use Rattle.pd_lexer.specs.Cuts.{Cuts, token_of, tokens_of, AreTokens, IsLexFault}
 use Rattle.pd_lexer.specs.Levels.{Levels, ground}
 use Rattle.pd_lexer.specs.Pieces.{piece_at, end_of, levels_after}
 use Rattle.pd_lexer.specs.Spelled.{AllStandIn, InOrder, AreTokensOf}
@@ -42,32 +41,11 @@ cut_from source (suc left) levels at le few =
 pub some_cut : (source : List ℕ) (levels : Levels) (at : ℕ) → at ≤ length source → (ps : List Piece) × Cuts source levels at ps
 some_cut source levels at le = cut_from source (length source - at) levels at le (omega arith)
 
--- ---- tokens and first faults
-
 pub same_tokens : (source : List ℕ) (ts us : List Token) → AreTokens source ts → AreTokens source us → ts ≡ us
 same_tokens source ts us p q = p.are ∙ ap tokens_of (one_cut source ground 0 p.pieces q.pieces p.cut q.cut) ∙ sym q.are
 
-some_is : {X : Type 0} (x y : X) → Some x ≡ Some y → x ≡ y
-some_is x y e = cc
-
-none_some : {X : Type 0} (x : X) → None ≡ Some x → ⊥
-none_some x e = cc
-
-pub same_fault : (source : List ℕ) (a b : PatternFault) → IsLexFault source a → IsLexFault source b → a ≡ b
-same_fault source a b p q =
-    some_is a b (sym p.first ∙ ap (λ ps. first_fault (faults ps)) (one_cut source ground 0 p.pieces q.pieces p.cut q.cut) ∙ q.first)
-
 pub no_tokens : (source : List ℕ) (fault : PatternFault) (ts : List Token) → IsLexFault source fault → AreTokens source ts → ⊥
-no_tokens source fault ts p q =
-    none_some fault (sym q.sound ∙ ap (λ ps. first_fault (faults ps)) (one_cut source ground 0 q.pieces p.pieces q.cut p.cut) ∙ p.first)
-
-pub outcome : (source : List ℕ) → HasOutcome source
-outcome source = by (some_cut source ground 0 (omega arith)) where
-  by : ((ps : List Piece) × Cuts source ground 0 ps) → HasOutcome source
-  by cut = judged (first_fault (faults cut.0)) refl where
-    judged : (o : Option PatternFault) → first_fault (faults cut.0) ≡ o → HasOutcome source
-    judged None e = inl (tokens_of cut.0, record { pieces = cut.0; cut = cut.1; sound = e; are = refl })
-    judged (Some fault) e = inr (fault, record { pieces = cut.0; cut = cut.1; first = e })
+no_tokens source fault ts p q = q.sound fault p.is
 
 -- ---- where tokens stand
 

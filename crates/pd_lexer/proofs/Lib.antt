@@ -1,4 +1,5 @@
 pub mod Cutting
+pub mod FirstFaults
 pub mod Fronts
 pub mod LongestMatch
 pub mod NumberLemmas

@@ -9,10 +9,11 @@ use Rattle.pd_lexer.specs.declared.token.Token.{Token}
 use Rattle.pd_lexer.specs.declared.levels.Level.{Level}
 use Rattle.pd_lexer.specs.declared.pieces.Piece.{Piece}
 use Rattle.pd_lexer.specs.declared.pieces.Piece.TheVariants as pieces
-use Rattle.pd_lexer.specs.Cuts.{Cuts, closes, fault_of, faults, token_of, tokens_of, AreTokens, IsLexFault, EndsAll}
+use Rattle.pd_lexer.specs.Cuts.{Cuts, closes, fault_of, token_of, tokens_of, AreTokens, IsLexFault, EndsAll}
 use Rattle.pd_lexer.specs.Levels.{Levels, ground, turned_to}
 use Rattle.pd_lexer.specs.Pieces.{directive_fault, piece_at, end_of, levels_after, outermost_after}
 use Rattle.pd_lexer.proofs.Cutting.{some_cut}
+use Rattle.pd_lexer.proofs.FirstFaults.{faults, tokens_from, fault_from}
 use Rattle.pd_lexer.proofs.Sound.{sound_piece}
 
 -- ---- which `#if` are ended
@@ -174,21 +175,14 @@ first_at_end source levels outermost at tokens reached = ap (λ ps. first_fault 
 pub read_whole : (source : List ℕ) (levels : Levels) (outermost at : ℕ) (tokens : List Token) → Reached source levels outermost at tokens → length source ≤ at
     → length levels.outer ≡ 0 → AreTokens source tokens
 read_whole source levels outermost at tokens reached ge none =
-    record {
-      pieces = reached.before;
-      cut = at_end source levels outermost at tokens reached ge;
-      sound = first_at_end source levels outermost at tokens reached ∙ ap (λ n. or_fault (open_fault outermost n []) None) none;
-      are = reached.are;
-    }
+    tokens_from source reached.before tokens (at_end source levels outermost at tokens reached ge)
+    (first_at_end source levels outermost at tokens reached ∙ ap (λ n. or_fault (open_fault outermost n []) None) none) reached.are
 
 pub left_open : (source : List ℕ) (levels : Levels) (outermost at : ℕ) (tokens : List Token) → Reached source levels outermost at tokens → length source ≤ at
     → 0 < length levels.outer → IsLexFault source (directive_fault outermost)
 left_open source levels outermost at tokens reached ge some =
-    record {
-      pieces = reached.before;
-      cut = at_end source levels outermost at tokens reached ge;
-      first = first_at_end source levels outermost at tokens reached ∙ by levels.outer some;
-    } where
+    fault_from source reached.before (directive_fault outermost) (at_end source levels outermost at tokens reached ge)
+    (first_at_end source levels outermost at tokens reached ∙ by levels.outer some) where
       by : (outer : List Level) → 0 < length outer → or_fault (open_fault outermost (length outer) []) None ≡ Some (directive_fault outermost)
       by [] some = absurd (omega arith)
       by (level ∷ outer) some = refl
@@ -203,11 +197,9 @@ at_fault source levels outermost at tokens fault to ended reached lt e ends =
     let rest = some_cut source levels to within in
     let c : closes (length levels.outer) (pieces.Fault fault to ∷ rest.0) ≡ ended =
     closes_past (length levels.outer) (pieces.Fault fault to) rest.0 (λ m. refl) ∙ ends rest.0 rest.1 in
-    record {
-      pieces = reached.before ++ pieces.Fault fault to ∷ rest.0;
-      cut = reached.goes (pieces.Fault fault to ∷ rest.0) (lt, sym e, rest.1);
-      first = reached.judged (pieces.Fault fault to ∷ rest.0) ∙ by (closes (length levels.outer) (pieces.Fault fault to ∷ rest.0)) ended c;
-    } where
+    fault_from source (reached.before ++ pieces.Fault fault to ∷ rest.0) (cond ended fault (directive_fault outermost))
+    (reached.goes (pieces.Fault fault to ∷ rest.0) (lt, sym e, rest.1))
+    (reached.judged (pieces.Fault fault to ∷ rest.0) ∙ by (closes (length levels.outer) (pieces.Fault fault to ∷ rest.0)) ended c) where
       by : (c d : Bool) → c ≡ d → or_fault (cond c None (Some (directive_fault outermost))) (Some fault) ≡ Some (cond d fault (directive_fault outermost))
       by true true h = refl
       by false false h = refl

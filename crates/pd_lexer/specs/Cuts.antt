@@ -1,7 +1,6 @@
 -- A source cut into pieces: its tokens, and its first fault.
-use Rattle.std.specs.Prelude.{◌≡◌, ◌⊎◌, ℕ, zero, suc, ◌<◌, Bool, true, false, Option, Some, None, List, [], ◌∷◌, ◌++◌, length, if◌then◌else◌}
+use Rattle.std.specs.Prelude.{◌≡◌, ◌⊎◌, ℕ, zero, suc, ◌<◌, ◌≤◌, Bool, true, false, Option, Some, None, List, [], ◌∷◌, ◌++◌, length, if◌then◌else◌}
 use Rattle.pm_ops.specs.declared.fault.PatternFault.{PatternFault}
-use Rattle.pm_places.specs.FirstFaults.{first_fault}
 use Rattle.pd_lexer.specs.declared.token.Token.{Token}
 use Rattle.pd_lexer.specs.declared.pieces.Piece.{Piece}
 use Rattle.pd_lexer.specs.declared.pieces.Piece.TheVariants as pieces
@@ -28,11 +27,6 @@ fault_of (pieces.If holds line) rest = if closes 1 rest then None else Some (dir
 fault_of (pieces.Fault fault to) rest = Some fault
 fault_of piece rest = None
 
--- of all pieces, in the order of the file
-abbrev pub faults : List Piece → List (Option PatternFault)
-faults [] = []
-faults (piece ∷ rest) = fault_of piece rest ∷ faults rest
-
 abbrev pub token_of : Piece → List Token
 token_of (pieces.Token token) = token ∷ []
 token_of piece = []
@@ -41,18 +35,25 @@ abbrev pub tokens_of : List Piece → List Token
 tokens_of [] = []
 tokens_of (piece ∷ rest) = token_of piece ++ tokens_of rest
 
--- these are the tokens of the source: it is cut into pieces without a fault, and these are the tokens among them
+-- a fault of the source is that of one of its pieces
+pub record IsFaultOf (source : List ℕ) (fault : PatternFault) : Type 0 where
+  pub front : List Piece
+  pub piece : Piece
+  pub rest : List Piece
+  pub cut : Cuts source ground 0 (front ++ piece ∷ rest)
+  pub has : fault_of piece rest ≡ Some fault
+
+-- the source is cut into pieces of which none has a fault, and these are the tokens among them
 pub record AreTokens (source : List ℕ) (tokens : List Token) : Type 0 where
   pub pieces : List Piece
   pub cut : Cuts source ground 0 pieces
-  pub sound : first_fault (faults pieces) ≡ None
+  pub sound : (fault : PatternFault) → IsFaultOf source fault → ⊥
   pub are : tokens ≡ tokens_of pieces
 
--- the first fault of the source, in the order of the file
+-- the fault of the source that stands at the least place
 pub record IsLexFault (source : List ℕ) (fault : PatternFault) : Type 0 where
-  pub pieces : List Piece
-  pub cut : Cuts source ground 0 pieces
-  pub first : first_fault (faults pieces) ≡ Some fault
+  pub is : IsFaultOf source fault
+  pub least : (other : PatternFault) → IsFaultOf source other → fault.at ≤ other.at
 
 -- the source has tokens, or a first fault
 abbrev pub HasOutcome : List ℕ → Type 0

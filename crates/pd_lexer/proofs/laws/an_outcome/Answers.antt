@@ -1,4 +1,4 @@
-use Rattle.pd_lexer.proofs.Cutting.{outcome}
+use Rattle.pd_lexer.proofs.FirstFaults.{outcome}
 use Rattle.pd_lexer.proofs.laws.an_outcome.Goals as goal
 
 pub returns : goal.returns
