@@ -26,7 +26,8 @@ cut_from : (source : List ℕ) (left : ℕ) (levels : Levels) (at : ℕ) → at 
     → (ps : List Piece) × Cuts source levels at ps
 cut_from source zero levels at le few = ([], omega arith)
 cut_from source (suc left) levels at le few =
-    by (cases_lt at (length source)) (λ within few. cut_from source left (levels_after levels (piece_at source levels at)) (end_of (piece_at source levels at)) within few) where
+    by (cases_lt at (length source)) (λ within few. cut_from source left (levels_after levels (piece_at source levels at)) (end_of
+    (piece_at source levels at)) within few) where
       by : (at < length source) ⊎ (length source ≤ at)
           → (end_of (piece_at source levels at) ≤ length source → length source - end_of (piece_at source levels at) ≤ left
           → (ps : List Piece) × Cuts source (levels_after levels (piece_at source levels at)) (end_of (piece_at source levels at)) ps)

@@ -19,7 +19,8 @@ some_is : {X : Type 0} (x y : X) → Some x ≡ Some y → x ≡ y
 some_is x y e = cc
 
 -- where no piece has a fault, this one has none
-none_there : (front : List Piece) (piece : Piece) (rest : List Piece) → first_fault (faults (front ++ piece ∷ rest)) ≡ None → fault_of piece rest ≡ None
+none_there : (front : List Piece) (piece : Piece) (rest : List Piece) → first_fault (faults (front ++ piece ∷ rest)) ≡ None
+    → fault_of piece rest ≡ None
 none_there [] piece rest e = by (fault_of piece rest) e where
   by : (o : Option PatternFault) → first_fault (o ∷ faults rest) ≡ None → o ≡ None
   by None e = refl
@@ -51,7 +52,8 @@ first_stands (p ∷ ps) fault e = by (fault_of p ps) refl e (first_stands ps fau
 -- a fault stands within the pieces
 fault_behind : (source : List ℕ) (levels : Levels) (at : ℕ) (front : List Piece) (piece : Piece) (rest : List Piece) (fault : PatternFault)
     → Cuts source levels at (front ++ piece ∷ rest) → fault_of piece rest ≡ Some fault → at ≤ fault.at
-fault_behind source levels at [] piece rest fault cut has = ((subst (IsSound source at) cut.1 (sound_piece source levels at cut.0)).place rest fault has).0
+fault_behind source levels at [] piece rest fault cut has = ((subst (IsSound source at) cut.1
+    (sound_piece source levels at cut.0)).place rest fault has).0
 fault_behind source levels at (p ∷ front) piece rest fault cut has =
     let sound = subst (IsSound source at) cut.1 (sound_piece source levels at cut.0) in
     let later = fault_behind source (levels_after levels p) (end_of p) front piece rest fault cut.2 has in
@@ -93,17 +95,26 @@ pub fault_from : (source : List ℕ) (ps : List Piece) (fault : PatternFault) �
 fault_from source ps fault cut first =
     let found = first_stands ps fault first in
     record {
-      is = record { front = found.front; piece = found.piece; rest = found.rest; cut = subst (Cuts source ground 0) found.splits cut; has = found.has };
+      is = record {
+        front = found.front;
+        piece = found.piece;
+        rest = found.rest;
+        cut = subst
+            (Cuts source ground 0) found.splits cut;
+        has = found.has;
+      };
       least = λ other is.
           let same = one_cut source ground 0 ps (is.front ++ is.piece ∷ is.rest) cut is.cut in
-          by other (first_or_before source ground 0 is.front is.piece is.rest fault other is.cut is.has (subst (λ qs. first_fault (faults qs) ≡ Some fault) same first));
+          by other (first_or_before source ground 0 is.front is.piece is.rest fault other is.cut is.has (subst (λ qs. first_fault (faults qs)
+          ≡ Some fault) same first));
     } where
       by : (other : PatternFault) → (fault ≡ other) ⊎ (fault.at < other.at) → fault.at ≤ other.at
       by other (inl e) = omega (arith, ap (λ (f : PatternFault). f.at) e)
       by other (inr lt) = omega (arith, lt)
 
 -- the least fault is the first
-least_is_first : (source : List ℕ) (ps : List Piece) (fault : PatternFault) → Cuts source ground 0 ps → IsLexFault source fault → first_fault (faults ps) ≡ Some fault
+least_is_first : (source : List ℕ) (ps : List Piece) (fault : PatternFault) → Cuts source ground 0 ps → IsLexFault source fault
+    → first_fault (faults ps) ≡ Some fault
 least_is_first source ps fault cut least = by (first_fault (faults ps)) refl where
   same : ps ≡ least.is.front ++ least.is.piece ∷ least.is.rest
   same = one_cut source ground 0 ps (least.is.front ++ least.is.piece ∷ least.is.rest) cut least.is.cut
@@ -112,9 +123,11 @@ least_is_first source ps fault cut least = by (first_fault (faults ps)) refl whe
   none fault e = absurd cc
 
   by : (o : Option PatternFault) → first_fault (faults ps) ≡ o → o ≡ Some fault
-  by None e = none fault (sym (none_there least.is.front least.is.piece least.is.rest (subst (λ qs. first_fault (faults qs) ≡ None) same e)) ∙ least.is.has)
+  by None e = none fault (sym (none_there least.is.front least.is.piece least.is.rest (subst (λ qs. first_fault (faults qs) ≡ None) same e))
+      ∙ least.is.has)
   by (Some first) e =
-      let before = first_or_before source ground 0 least.is.front least.is.piece least.is.rest first fault least.is.cut least.is.has (subst (λ qs. first_fault (faults qs) ≡ Some first) same e) in
+      let before = first_or_before source ground 0 least.is.front least.is.piece least.is.rest first fault least.is.cut least.is.has (subst
+      (λ qs. first_fault (faults qs) ≡ Some first) same e) in
       decided before (least.least first (fault_from source ps first cut e).is) where
         decided : (first ≡ fault) ⊎ (first.at < fault.at) → fault.at ≤ first.at → Some first ≡ Some fault
         decided (inl e) le = ap Some e

@@ -54,7 +54,8 @@ line_long b text h =
     (omega (arith, e), prefix_len-le-length is_no_line_feed (b ∷ text))
 
 -- a line that begins with a byte other than a line feed
-pub opened_line : (b : ℕ) (text : List ℕ) → is_no_line_feed b ≡ true → text ≡ b ∷ drop 1 text → (0 < line_length text) × (line_length text ≤ length text)
+pub opened_line : (b : ℕ) (text : List ℕ) → is_no_line_feed b ≡ true → text ≡ b ∷ drop 1 text
+    → (0 < line_length text) × (line_length text ≤ length text)
 opened_line b text h e = subst (λ bs. (0 < line_length bs) × (line_length bs ≤ length bs)) (sym e) (line_long b (drop 1 text) h)
 
 space_long : (text : List ℕ) → begins_with_space text ≡ true → 0 < length text
@@ -62,7 +63,8 @@ space_long [] h = absurd (false≢true h)
 space_long (b ∷ text) h = omega arith
 
 note_within : (text : List ℕ) → opens text (codes "//") ≡ true → (0 < line_length text) × (line_length text ≤ length text)
-note_within text h = subst (λ bs. (0 < line_length bs) × (line_length bs ≤ length bs)) (sym (opens_two 47 47 text h)) (line_long 47 (47 ∷ drop 2 text) refl)
+note_within text h = subst (λ bs. (0 < line_length bs) × (line_length bs ≤ length bs)) (sym (opens_two 47 47 text h)) (line_long 47
+    (47 ∷ drop 2 text) refl)
 
 pub separator_within : (text : List ℕ) (n : ℕ) → separator_length text ≡ Some n → (0 < n) × (n ≤ length text)
 unfolding separator_length
@@ -70,7 +72,8 @@ separator_within text n e = by (begins_with_space text) (opens text (codes "//")
   by : (s t : Bool) → (s ≡ true → 0 < length text) → (t ≡ true → (0 < line_length text) × (line_length text ≤ length text))
       → cond s (Some 1) (cond t (Some (line_length text)) (comment_length text)) ≡ Some n → (0 < n) × (n ≤ length text)
   by true t space note e = let same : 1 ≡ n = some_is 1 n e in let long = space refl in (omega arith, omega arith)
-  by false true space note e = let same : line_length text ≡ n = some_is (line_length text) n e in let w = note refl in (omega (arith, w), omega (arith, w))
+  by false true space note e = let same : line_length text
+      ≡ n = some_is (line_length text) n e in let w = note refl in (omega (arith, w), omega (arith, w))
   by false false space note e = comment_within text n e
 
 -- ---- runs
@@ -117,7 +120,8 @@ decimal_front b text h =
     record {
       long = r.long;
       within = r.within;
-      are = rw e (decimal b (take (prefix_len is_digit text) text) (and_from (is_digit b) (list_all is_digit (take (prefix_len is_digit text) text)) h (run_passes is_digit text)));
+      are = rw e (decimal b (take (prefix_len is_digit text) text) (and_from (is_digit b) (list_all is_digit (take
+          (prefix_len is_digit text) text)) h (run_passes is_digit text)));
     }
 
 hex_front : (rest : List ℕ) (k : ℕ) → prefix_len is_hex_digit rest ≡ suc k → DigitsFront (48 ∷ 120 ∷ rest) (2 + suc k)
@@ -125,7 +129,8 @@ hex_front [] k e = absurd cc
 hex_front (d ∷ rest) k e =
     let all_bytes : 2 + suc k ≡ suc (suc (suc k)) = omega arith in
     let few : prefix_len is_hex_digit (d ∷ rest) ≤ length (d ∷ rest) = prefix_len-le-length is_hex_digit (d ∷ rest) in
-    let all : list_all is_hex_digit (take (suc k) (d ∷ rest)) ≡ true = ap (λ n. list_all is_hex_digit (take n (d ∷ rest))) (sym e) ∙ run_passes is_hex_digit (d ∷ rest) in
+    let all : list_all is_hex_digit (take (suc k) (d ∷ rest)) ≡ true = ap (λ n. list_all is_hex_digit (take n (d ∷ rest))) (sym e)
+    ∙ run_passes is_hex_digit (d ∷ rest) in
     rw all_bytes (record { long = omega arith; within = omega (arith, few, e); are = hexadecimal d (take k rest) all })
 
 digits_front : (b : ℕ) (text : List ℕ) → is_digit b ≡ true → DigitsFront (b ∷ text) (digits_length (b ∷ text))
@@ -134,10 +139,12 @@ digits_front b text h = by (opens (b ∷ text) (codes "0x")) refl where
   hex : (k : ℕ) → prefix_len is_hex_digit (drop 2 (b ∷ text)) ≡ k → opens (b ∷ text) (codes "0x") ≡ true
       → DigitsFront (b ∷ text) (cond (k == 0) (prefix_len is_digit (b ∷ text)) (2 + k))
   hex zero e o = decimal_front b text h
-  hex (suc k) e o = rw (positive k) (subst (λ bs. DigitsFront bs (2 + suc k)) (sym (opens_two 48 120 (b ∷ text) o)) (hex_front (drop 2 (b ∷ text)) k e))
+  hex (suc k) e o = rw (positive k) (subst (λ bs. DigitsFront bs (2 + suc k)) (sym (opens_two 48 120 (b ∷ text) o)) (hex_front (drop 2
+      (b ∷ text)) k e))
 
   by : (o : Bool) → opens (b ∷ text) (codes "0x") ≡ o
-      → DigitsFront (b ∷ text) (cond (cond o (prefix_len is_hex_digit (drop 2 (b ∷ text))) 0 == 0) (prefix_len is_digit (b ∷ text)) (2 + cond o (prefix_len is_hex_digit (drop 2 (b ∷ text))) 0))
+      → DigitsFront (b ∷ text) (cond (cond o (prefix_len is_hex_digit (drop 2 (b ∷ text))) 0 == 0) (prefix_len is_digit (b ∷ text)) (2 + cond o
+      (prefix_len is_hex_digit (drop 2 (b ∷ text))) 0))
   by false o = decimal_front b text h
   by true o = hex (prefix_len is_hex_digit (drop 2 (b ∷ text))) refl o
 
@@ -168,7 +175,12 @@ text_front rest kind n e = by (quoted_length rest) refl e where
   by None p e = absurd cc
   by (Some m) p e =
       let f = quoted_front rest m p in
-      subst (λ (found : TokenKind × ℕ). Front (34 ∷ rest) found.0 found.1) (some_is (Text, m) (kind, n) e) (record { long = f.long; within = omega (arith, f.within); spelled = f.is_quoted })
+      subst (λ (found : TokenKind × ℕ). Front (34 ∷ rest) found.0 found.1) (some_is (Text, m) (kind, n) e) (record {
+        long = f.long;
+        within = omega
+            (arith, f.within);
+        spelled = f.is_quoted;
+      })
 
 -- ---- captures
 
@@ -180,10 +192,12 @@ record NameFront (text : List ℕ) (n : ℕ) : Type 0 where
 digit_name : (b : ℕ) (text : List ℕ) → is_digit b ≡ true → NameFront (b ∷ text) (prefix_len is_digit (b ∷ text))
 digit_name b text h =
     let r = run is_digit b text h in
-    let short : length (take (prefix_len is_digit (b ∷ text)) (b ∷ text)) ≡ prefix_len is_digit (b ∷ text) = length-take-le (prefix_len is_digit (b ∷ text)) (b ∷ text) r.within in
+    let short : length (take (prefix_len is_digit (b ∷ text)) (b ∷ text))
+    ≡ prefix_len is_digit (b ∷ text) = length-take-le (prefix_len is_digit (b ∷ text)) (b ∷ text) r.within in
     record { within = r.within; named = inl (omega (arith, short, r.long), r.passes) }
 
-word_name : (b : ℕ) (text : List ℕ) (k : ℕ) → is_digit b ≡ false → prefix_len is_word_byte (b ∷ text) ≡ suc k → NameFront (b ∷ text) (prefix_len is_word_byte (b ∷ text))
+word_name : (b : ℕ) (text : List ℕ) (k : ℕ) → is_digit b ≡ false → prefix_len is_word_byte (b ∷ text) ≡ suc k
+    → NameFront (b ∷ text) (prefix_len is_word_byte (b ∷ text))
 word_name b text k other e = by (is_letter b) refl where
   by : (l : Bool) → is_letter b ≡ l → NameFront (b ∷ text) (prefix_len is_word_byte (b ∷ text))
   by true h = record { within = prefix_len-le-length is_word_byte (b ∷ text); named = inr (word_run b text h) }
@@ -203,14 +217,25 @@ name_front (b ∷ text) k e = by (is_digit b) refl e where
 is_capture_of : (kind : TokenKind) (ats k : ℕ) → capture_of kind ats (suc k) ≡ Some (kind, ats + suc k)
 is_capture_of kind ats k = rw (positive k) refl
 
-one_at : (rest : List ℕ) (k : ℕ) → name_length rest ≡ k → (kind : TokenKind) (n : ℕ) → capture_of Capture 1 k ≡ Some (kind, n) → Front (64 ∷ rest) kind n
+one_at : (rest : List ℕ) (k : ℕ) → name_length rest ≡ k → (kind : TokenKind) (n : ℕ) → capture_of Capture 1 k ≡ Some (kind, n)
+    → Front (64 ∷ rest) kind n
 one_at rest zero e kind n c = absurd cc
 one_at rest (suc k) e kind n c =
     let name = name_front rest k e in
     let named : IsName (take (suc k) rest) = subst (λ m. IsName (take m rest)) e name.named in
     let bytes : 1 + suc k ≡ suc (suc k) = omega arith in
-    subst (λ (found : TokenKind × ℕ). Front (64 ∷ rest) found.0 found.1) (some_is (Capture, 1 + suc k) (kind, n) (sym (is_capture_of Capture 1 k) ∙ c))
-    (rw bytes (record { long = omega arith; within = omega (arith, name.within, e); spelled = record { name = take (suc k) rest; parts = refl; named = named } }))
+    subst (λ (found : TokenKind × ℕ). Front (64 ∷ rest) found.0 found.1) (some_is (Capture, 1 + suc k) (kind, n) (sym (is_capture_of Capture 1 k)
+    ∙ c))
+    (rw bytes (record {
+      long = omega arith;
+      within = omega (arith, name.within, e);
+      spelled = record {
+        name = take
+            (suc k) rest;
+        parts = refl;
+        named = named;
+      };
+    }))
 
 two_ats : (rest : List ℕ) (k : ℕ) → name_length rest ≡ k → (kind : TokenKind) (n : ℕ) → capture_of ValueCapture 2 k ≡ Some (kind, n)
     → Front (64 ∷ 64 ∷ rest) kind n
@@ -219,14 +244,25 @@ two_ats rest (suc k) e kind n c =
     let name = name_front rest k e in
     let named : IsName (take (suc k) rest) = subst (λ m. IsName (take m rest)) e name.named in
     let bytes : 2 + suc k ≡ suc (suc (suc k)) = omega arith in
-    subst (λ (found : TokenKind × ℕ). Front (64 ∷ 64 ∷ rest) found.0 found.1) (some_is (ValueCapture, 2 + suc k) (kind, n) (sym (is_capture_of ValueCapture 2 k) ∙ c))
-    (rw bytes (record { long = omega arith; within = omega (arith, name.within, e); spelled = record { name = take (suc k) rest; parts = refl; named = named } }))
+    subst (λ (found : TokenKind × ℕ). Front (64 ∷ 64 ∷ rest) found.0 found.1) (some_is (ValueCapture, 2 + suc k) (kind, n) (sym
+    (is_capture_of ValueCapture 2 k) ∙ c))
+    (rw bytes (record {
+      long = omega arith;
+      within = omega (arith, name.within, e);
+      spelled = record {
+        name = take
+            (suc k) rest;
+        parts = refl;
+        named = named;
+      };
+    }))
 
 capture_begins : (rest : List ℕ) (kind : TokenKind) (n : ℕ) → capture_front rest ≡ Some (kind, n) → Front (64 ∷ rest) kind n
 unfolding capture_front
 capture_begins rest kind n e = by (opens rest (codes "@")) refl e where
   by : (o : Bool) → opens rest (codes "@") ≡ o
-      → cond o (capture_of ValueCapture 2 (name_length (drop 1 rest))) (capture_of Capture 1 (name_length rest)) ≡ Some (kind, n) → Front (64 ∷ rest) kind n
+      → cond o (capture_of ValueCapture 2 (name_length (drop 1 rest))) (capture_of Capture 1 (name_length rest)) ≡ Some (kind, n)
+      → Front (64 ∷ rest) kind n
   by true o e = subst (λ bs. Front (64 ∷ bs) kind n) (sym (opens_one 64 rest o)) (two_ats (drop 1 rest) (name_length (drop 1 rest)) refl kind n e)
   by false o e = one_at rest (name_length rest) refl kind n e
 
@@ -259,9 +295,11 @@ unfolding mark_length
 mark_front text kind n e = by (is_mark (take 2 text)) (is_mark (take 1 text)) refl refl e where
   by : (two one : Bool) → is_mark (take 2 text) ≡ two → is_mark (take 1 text) ≡ one
       → option_map (of_kind Punct) (cond two (Some (length (take 2 text))) (cond one (Some 1) None)) ≡ Some (kind, n) → Front text kind n
-  by true one p q e = subst (λ (found : TokenKind × ℕ). Front text found.0 found.1) (some_is (Punct, length (take 2 text)) (kind, n) e) (mark_here text 2 p)
+  by true one p q e = subst (λ (found : TokenKind × ℕ). Front text found.0 found.1) (some_is (Punct, length (take 2 text)) (kind, n) e)
+      (mark_here text 2 p)
   by false true p q e =
-      subst (λ (found : TokenKind × ℕ). Front text found.0 found.1) (some_is (Punct, 1) (kind, n) e) (subst (Front text Punct) (one_byte text q) (mark_here text 1 q))
+      subst (λ (found : TokenKind × ℕ). Front text found.0 found.1) (some_is (Punct, 1) (kind, n) e) (subst (Front text Punct) (one_byte text q)
+      (mark_here text 1 q))
   by false false p q e = absurd cc
 
 -- ---- all of them
@@ -271,10 +309,16 @@ unfolding token_front
 front_of [] kind n e = absurd cc
 front_of (b ∷ text) kind n e = by (is_letter b) (is_digit b) (b == 34) (b == 64) refl refl refl refl e where
   by : (l d q a : Bool) → is_letter b ≡ l → is_digit b ≡ d → (b == 34) ≡ q → (b == 64) ≡ a
-      → cond l (Some (Ident, prefix_len is_word_byte (b ∷ text))) (cond d (Some (Number, number_length (b ∷ text))) (cond q (option_map (of_kind Text) (quoted_length text)) (cond a (capture_front text) (option_map (of_kind Punct) (mark_length (b ∷ text)))))) ≡ Some (kind, n)
+      → cond l (Some (Ident, prefix_len is_word_byte (b ∷ text))) (cond d (Some (Number, number_length (b ∷ text))) (cond q (option_map
+      (of_kind Text) (quoted_length text)) (cond a (capture_front text) (option_map (of_kind Punct) (mark_length (b ∷ text)))))) ≡ Some (kind, n)
       → Front (b ∷ text) kind n
-  by true d q a h i j k e = subst (λ (found : TokenKind × ℕ). Front (b ∷ text) found.0 found.1) (some_is (Ident, prefix_len is_word_byte (b ∷ text)) (kind, n) e) (word_front b text h)
-  by false true q a h i j k e = subst (λ (found : TokenKind × ℕ). Front (b ∷ text) found.0 found.1) (some_is (Number, number_length (b ∷ text)) (kind, n) e) (number_front b text i)
+  by true d q a h i j k e = subst (λ (found : TokenKind × ℕ). Front (b ∷ text) found.0 found.1) (some_is (
+    Ident,
+    prefix_len is_word_byte
+        (b ∷ text),
+  ) (kind, n) e) (word_front b text h)
+  by false true q a h i j k e = subst (λ (found : TokenKind × ℕ). Front (b ∷ text) found.0 found.1) (some_is (Number, number_length (b ∷ text))
+      (kind, n) e) (number_front b text i)
   by false false true a h i j k e = subst (λ c. Front (c ∷ text) kind n) (sym (eqb-true b 34 j)) (text_front text kind n e)
   by false false false true h i j k e = subst (λ c. Front (c ∷ text) kind n) (sym (eqb-true b 64 k)) (capture_begins text kind n e)
   by false false false false h i j k e = mark_front (b ∷ text) kind n e

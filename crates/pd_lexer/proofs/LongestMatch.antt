@@ -41,7 +41,8 @@ word_at_front text zero le h = absurd (false≢true h)
 word_at_front [] (suc m) le h = absurd (omega arith)
 word_at_front (b ∷ text) (suc m) le h =
     let parts = and_parts (is_letter b) (list_all is_word_byte (take m text)) h in
-    let all : list_all is_word_byte (take (suc m) (b ∷ text)) ≡ true = and_from (is_word_byte b) (list_all is_word_byte (take m text)) (letter_is_word b parts.0) parts.1 in
+    let all : list_all is_word_byte (take (suc m) (b ∷ text))
+    ≡ true = and_from (is_word_byte b) (list_all is_word_byte (take m text)) (letter_is_word b parts.0) parts.1 in
     record { first = b; rest = text; begins = refl; letter = parts.0; within = within_run is_word_byte (b ∷ text) (suc m) le all }
 
 ident_reaches : (text : List ℕ) (m : ℕ) → m ≤ length text → is_word_text (take m text) ≡ true → Reaches text m
@@ -64,7 +65,8 @@ run_length p text = prefix_len p text + prefix_len is_suffix_letter (drop (prefi
 IsApart : (ℕ → Bool) → Type 0
 IsApart p = (b : ℕ) → is_suffix_letter b ≡ true → p b ≡ false
 
-letters_within : (p : ℕ → Bool) → IsApart p → (text : List ℕ) (m : ℕ) → m ≤ length text → list_all is_suffix_letter (take m text) ≡ true → m ≤ run_length p text
+letters_within : (p : ℕ → Bool) → IsApart p → (text : List ℕ) (m : ℕ) → m ≤ length text → list_all is_suffix_letter (take m text) ≡ true
+    → m ≤ run_length p text
 unfolding run_length IsApart
 letters_within p apart text zero le h = omega arith
 letters_within p apart [] (suc m) le h = absurd (omega arith)
@@ -155,7 +157,8 @@ hex_within (a ∷ b ∷ text) d digits letters (suc (suc m)) le e ds ls =
     let long : number_length (a ∷ b ∷ text) ≡ 2 + run_length is_hex_digit text =
     ap (λ x. number_length (x ∷ b ∷ text)) first ∙ ap (λ x. number_length (48 ∷ x ∷ text)) second ∙ hex_number text some.0 some.1 in
     omega (arith, within, long) where
-      hex_run : (text : List ℕ) (m d : ℕ) (more : List ℕ) → take m text ≡ d ∷ more → is_hex_digit d ≡ true → (k : ℕ) × (prefix_len is_hex_digit text ≡ suc k)
+      hex_run : (text : List ℕ) (m d : ℕ) (more : List ℕ) → take m text ≡ d ∷ more → is_hex_digit d ≡ true
+          → (k : ℕ) × (prefix_len is_hex_digit text ≡ suc k)
       hex_run text zero d more e h = absurd cc
       hex_run [] (suc m) d more e h = absurd cc
       hex_run (c ∷ text) (suc m) d more e h =
@@ -175,14 +178,22 @@ record DigitFirst (bytes : List ℕ) : Type 0 where
   digit : is_digit first ≡ true
 
 digit_first : (digits letters : List ℕ) → AreDigits digits → DigitFirst (digits ++ letters)
-digit_first _ letters (decimal d ds h) = record { first = d; rest = ds ++ letters; begins = refl; digit = (and_parts (is_digit d) (list_all is_digit ds) h).0 }
+digit_first _ letters (decimal d ds h) = record {
+  first = d;
+  rest = ds ++ letters;
+  begins = refl;
+  digit = (and_parts (is_digit d)
+      (list_all is_digit ds) h).0;
+}
 digit_first _ letters (hexadecimal d ds h) = record { first = 48; rest = 120 ∷ d ∷ (ds ++ letters); begins = refl; digit = refl }
 
 number_reaches : (text : List ℕ) (m : ℕ) → m ≤ length text → IsNumber (take m text) → Reaches text m
 number_reaches text m le number =
     let f = digit_first number.digits number.letters number.are_digits in
-    by text m f.first f.rest le (number.parts ∙ f.begins) f.digit (digits_within text number.letters m number.digits le number.parts number.are_digits number.are_letters) where
-      by : (text : List ℕ) (m d : ℕ) (rest : List ℕ) → m ≤ length text → take m text ≡ d ∷ rest → is_digit d ≡ true → m ≤ number_length text → Reaches text m
+    by text m f.first f.rest le (number.parts
+    ∙ f.begins) f.digit (digits_within text number.letters m number.digits le number.parts number.are_digits number.are_letters) where
+      by : (text : List ℕ) (m d : ℕ) (rest : List ℕ) → m ≤ length text → take m text ≡ d ∷ rest → is_digit d ≡ true → m ≤ number_length text
+          → Reaches text m
       by text zero d rest le e h within = absurd cc
       by [] (suc m) d rest le e h within = absurd (omega arith)
       by (b ∷ text) (suc m) d rest le e h within =
@@ -255,7 +266,13 @@ capture_reaches (b ∷ text) (suc m) le capture =
     let name : capture.name ≡ take m text = cc in
     let r = name_reach text m (omega arith) (subst IsName name capture.named) in
     let begins = one_begins text r.no_at ∙ capture_is Capture 1 (name_length text) (omega (arith, r.some, r.within)) in
-    subst (λ a. Reaches (a ∷ text) (suc m)) (sym same) (record { kind = Capture; len = 1 + name_length text; begins = begins; reaches = omega (arith, r.within) })
+    subst (λ a. Reaches (a ∷ text) (suc m)) (sym same) (record {
+      kind = Capture;
+      len = 1 + name_length text;
+      begins = begins;
+      reaches = omega
+          (arith, r.within);
+    })
 
 value_capture_reaches : (text : List ℕ) (m : ℕ) → m ≤ length text → IsCapture (codes "@@") (take m text) → Reaches text m
 value_capture_reaches text zero le capture = absurd (let parts : [] ≡ 64 ∷ 64 ∷ capture.name = capture.parts in cc)
@@ -285,7 +302,13 @@ text_reaches (b ∷ rest) (suc m) le quoted =
     let parts : b ∷ take m rest ≡ 34 ∷ (quoted.inner ++ 34 ∷ []) = quoted.parts in
     let same : b ≡ 34 = cc in
     let found = quoted_found rest m (omega arith) (subst (λ a. IsQuoted (a ∷ take m rest)) same quoted) in
-    subst (λ a. Reaches (a ∷ rest) (suc m)) (sym same) (record { kind = Text; len = suc m; begins = text_begins (suc m) rest found; reaches = omega arith })
+    subst (λ a. Reaches (a ∷ rest) (suc m)) (sym same) (record {
+      kind = Text;
+      len = suc m;
+      begins = text_begins
+          (suc m) rest found;
+      reaches = omega arith;
+    })
 
 -- ---- marks
 
@@ -300,7 +323,8 @@ is_one_or_two (a ∷ b ∷ []) = is_odd a
 is_one_or_two bytes = false
 
 -- what each word of a list has, a text has that is one of them
-among_passes : (p : List ℕ → Bool) (words : List (List ℕ)) (bytes : List ℕ) → list_any (λ word. bytes_eq word bytes) words ≡ true → list_all p words ≡ true → p bytes ≡ true
+among_passes : (p : List ℕ → Bool) (words : List (List ℕ)) (bytes : List ℕ) → list_any (λ word. bytes_eq word bytes) words ≡ true
+    → list_all p words ≡ true → p bytes ≡ true
 among_passes p [] bytes h all = absurd (false≢true h)
 among_passes p (word ∷ words) bytes h all =
     let parts = and_parts (p word) (list_all p words) all in
@@ -318,7 +342,9 @@ odd_begins : (a : ℕ) (text : List ℕ) → is_odd a ≡ true → token_front (
 unfolding token_front is_odd
 odd_begins a text odd = by (is_letter a) (is_digit a) (a == 34) (a == 64) odd where
   by : (l d q t : Bool) → (not l && not d && not q && not t) ≡ true
-      → cond l (Some (Ident, prefix_len is_word_byte (a ∷ text))) (cond d (Some (Number, number_length (a ∷ text))) (cond q (option_map (of_kind Text) (quoted_length text)) (cond t (capture_front text) (option_map (of_kind Punct) (mark_length (a ∷ text)))))) ≡ option_map (of_kind Punct) (mark_length (a ∷ text))
+      → cond l (Some (Ident, prefix_len is_word_byte (a ∷ text))) (cond d (Some (Number, number_length (a ∷ text))) (cond q (option_map
+      (of_kind Text) (quoted_length text)) (cond t (capture_front text) (option_map (of_kind Punct) (mark_length (a ∷ text))))))
+      ≡ option_map (of_kind Punct) (mark_length (a ∷ text))
   by true d q t odd = absurd (false≢true odd)
   by false true q t odd = absurd (false≢true odd)
   by false false true t odd = absurd (false≢true odd)

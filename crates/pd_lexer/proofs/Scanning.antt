@@ -67,7 +67,8 @@ pub record Reached (source : List ℕ) (levels : Levels) (outermost at : ℕ) (t
   pub before : List Piece
   pub goes : (rest : List Piece) → Cuts source levels at rest → Cuts source ground 0 (before ++ rest)
   pub are : tokens ≡ tokens_of before
-  pub judged : (rest : List Piece) → first_fault (faults (before ++ rest)) ≡ or_fault (open_fault outermost (length levels.outer) rest) (first_fault (faults rest))
+  pub judged : (rest : List Piece)
+      → first_fault (faults (before ++ rest)) ≡ or_fault (open_fault outermost (length levels.outer) rest) (first_fault (faults rest))
   pub within : at ≤ length source
 
 pub begun : (source : List ℕ) (levels : Levels) (tokens : List Token) → levels ≡ ground → tokens ≡ [] → Reached source levels 0 0 tokens
@@ -93,22 +94,28 @@ right_from (pieces.EndIf line) never = tt
 right_from (pieces.Fault fault to) never = never fault to refl
 
 passed : (n m outermost : ℕ) (piece : Piece) (rest : List Piece) → closes n (piece ∷ rest) ≡ closes m rest → fault_of piece rest ≡ None
-    → or_fault (open_fault outermost n (piece ∷ rest)) (first_fault (faults (piece ∷ rest))) ≡ or_fault (open_fault outermost m rest) (first_fault (faults rest))
+    → or_fault (open_fault outermost n (piece ∷ rest)) (first_fault (faults (piece ∷ rest)))
+    ≡ or_fault (open_fault outermost m rest) (first_fault (faults rest))
 passed n m outermost piece rest c f = rw (c, f) refl
 
 judged_next : (inner : Level) (outer : List Level) (outermost : ℕ) (piece : Piece) (rest : List Piece) → IsRight piece
     → or_fault (open_fault outermost (length outer) (piece ∷ rest)) (first_fault (faults (piece ∷ rest)))
-    ≡ or_fault (open_fault (outermost_after (record { inner = inner; outer = outer }) piece outermost) (length (levels_after (record { inner = inner; outer = outer }) piece).outer) rest) (first_fault (faults rest))
-judged_next inner outer outermost (pieces.Separator to) rest right = passed (length outer) (length outer) outermost (pieces.Separator to) rest (closes_past (length outer) (pieces.Separator to) rest (λ m. refl)) refl
-judged_next inner outer outermost (pieces.Token t) rest right = passed (length outer) (length outer) outermost (pieces.Token t) rest (closes_past (length outer) (pieces.Token t) rest (λ m. refl)) refl
+    ≡ or_fault (open_fault (outermost_after (record { inner = inner; outer = outer }) piece outermost) (length (levels_after
+    (record { inner = inner; outer = outer }) piece).outer) rest) (first_fault (faults rest))
+judged_next inner outer outermost (pieces.Separator to) rest right = passed (length outer) (length outer) outermost (pieces.Separator to) rest
+    (closes_past (length outer) (pieces.Separator to) rest (λ m. refl)) refl
+judged_next inner outer outermost (pieces.Token t) rest right = passed (length outer) (length outer) outermost (pieces.Token t) rest (closes_past
+    (length outer) (pieces.Token t) rest (λ m. refl)) refl
 judged_next inner outer outermost (pieces.Else line) rest right =
     passed (length outer) (length (turned_to inner.other (record { inner = inner; outer = outer })).outer) outermost (pieces.Else line) rest
-    (closes_past (length outer) (pieces.Else line) rest (λ m. refl) ∙ ap (λ ls. closes (length ls) rest) (sym (turned_length inner.other (record { inner = inner; outer = outer })))) refl
+    (closes_past (length outer) (pieces.Else line) rest (λ m. refl)
+    ∙ ap (λ ls. closes (length ls) rest) (sym (turned_length inner.other (record { inner = inner; outer = outer })))) refl
 judged_next inner [] outermost (pieces.EndIf line) rest right = passed 0 0 outermost (pieces.EndIf line) rest refl refl
 judged_next inner (level ∷ outer) outermost (pieces.EndIf line) rest right =
     passed (suc (length outer)) (length outer) outermost (pieces.EndIf line) rest refl refl
 judged_next inner [] outermost (pieces.If holds line) rest right = by (closes 1 rest) where
-  by : (c : Bool) → first_fault (cond c None (Some (directive_fault line.from)) ∷ faults rest) ≡ or_fault (cond c None (Some (directive_fault line.from))) (first_fault (faults rest))
+  by : (c : Bool) → first_fault (cond c None (Some (directive_fault line.from)) ∷ faults rest)
+      ≡ or_fault (cond c None (Some (directive_fault line.from))) (first_fault (faults rest))
   by true = refl
   by false = refl
 judged_next inner (level ∷ outer) outermost (pieces.If holds line) rest right =
@@ -133,14 +140,17 @@ stepped source levels outermost at tokens piece reached lt e right =
     let sound = sound_piece source levels at lt in
     record {
       before = reached.before ++ piece ∷ [];
-      goes = λ rest cut. subst (Cuts source ground 0) (sym (append_assoc reached.before (piece ∷ []) rest)) (reached.goes (piece ∷ rest) (lt, sym e, cut));
+      goes = λ rest cut. subst (Cuts source ground 0) (sym (append_assoc reached.before (piece ∷ []) rest)) (reached.goes (piece ∷ rest)
+          (lt, sym e, cut));
       are = ap (λ ts. ts ++ token_of piece) reached.are ∙ sym (tokens_further reached.before piece);
-      judged = λ rest. ap (λ ps. first_fault (faults ps)) (append_assoc reached.before (piece ∷ []) rest) ∙ reached.judged (piece ∷ rest) ∙ judged_next levels.inner levels.outer outermost piece rest right;
+      judged = λ rest. ap (λ ps. first_fault (faults ps)) (append_assoc reached.before (piece ∷ []) rest) ∙ reached.judged (piece ∷ rest)
+          ∙ judged_next levels.inner levels.outer outermost piece rest right;
       within = subst (λ p. end_of p ≤ length source) (sym e) sound.within;
     }
 
 -- a piece has bytes, and these lie in the source
-pub goes_on : (source : List ℕ) (levels : Levels) (at to : ℕ) (piece : Piece) → at < length source → piece ≡ piece_at source levels at → to ≡ end_of piece
+pub goes_on : (source : List ℕ) (levels : Levels) (at to : ℕ) (piece : Piece) → at < length source → piece ≡ piece_at source levels at
+    → to ≡ end_of piece
     → (at < to) × (to ≤ length source)
 goes_on source levels at to piece lt e t =
     let sound = sound_piece source levels at lt in
@@ -163,7 +173,8 @@ none_open n is_ground e h = eqb-true n 0 (sym e ∙ h)
 pub some_open : (n : ℕ) (is_ground : Bool) → is_ground ≡ (n == 0) → is_ground ≡ false → 0 < n
 some_open n is_ground e h = let other = eqb-false n 0 (sym e ∙ h) in omega (arith, other)
 
-at_end : (source : List ℕ) (levels : Levels) (outermost at : ℕ) (tokens : List Token) (reached : Reached source levels outermost at tokens) → length source ≤ at
+at_end : (source : List ℕ) (levels : Levels) (outermost at : ℕ) (tokens : List Token) (reached : Reached source levels outermost at tokens)
+    → length source ≤ at
     → Cuts source ground 0 reached.before
 at_end source levels outermost at tokens reached ge =
     subst (Cuts source ground 0) (append-nil reached.before) (reached.goes [] (omega (arith, reached.within)))
@@ -172,13 +183,15 @@ first_at_end : (source : List ℕ) (levels : Levels) (outermost at : ℕ) (token
     → first_fault (faults reached.before) ≡ or_fault (open_fault outermost (length levels.outer) []) None
 first_at_end source levels outermost at tokens reached = ap (λ ps. first_fault (faults ps)) (sym (append-nil reached.before)) ∙ reached.judged []
 
-pub read_whole : (source : List ℕ) (levels : Levels) (outermost at : ℕ) (tokens : List Token) → Reached source levels outermost at tokens → length source ≤ at
+pub read_whole : (source : List ℕ) (levels : Levels) (outermost at : ℕ) (tokens : List Token) → Reached source levels outermost at tokens
+    → length source ≤ at
     → length levels.outer ≡ 0 → AreTokens source tokens
 read_whole source levels outermost at tokens reached ge none =
     tokens_from source reached.before tokens (at_end source levels outermost at tokens reached ge)
     (first_at_end source levels outermost at tokens reached ∙ ap (λ n. or_fault (open_fault outermost n []) None) none) reached.are
 
-pub left_open : (source : List ℕ) (levels : Levels) (outermost at : ℕ) (tokens : List Token) → Reached source levels outermost at tokens → length source ≤ at
+pub left_open : (source : List ℕ) (levels : Levels) (outermost at : ℕ) (tokens : List Token) → Reached source levels outermost at tokens
+    → length source ≤ at
     → 0 < length levels.outer → IsLexFault source (directive_fault outermost)
 left_open source levels outermost at tokens reached ge some =
     fault_from source reached.before (directive_fault outermost) (at_end source levels outermost at tokens reached ge)
@@ -189,7 +202,8 @@ left_open source levels outermost at tokens reached ge some =
 
 -- a piece with a fault, where the levels round it are ended or not
 pub at_fault : (source : List ℕ) (levels : Levels) (outermost at : ℕ) (tokens : List Token) (fault : PatternFault) (to : ℕ) (ended : Bool)
-    → Reached source levels outermost at tokens → at < length source → pieces.Fault fault to ≡ piece_at source levels at → EndsAll source levels to ended
+    → Reached source levels outermost at tokens → at < length source → pieces.Fault fault to ≡ piece_at source levels at
+    → EndsAll source levels to ended
     → IsLexFault source (cond ended fault (directive_fault outermost))
 at_fault source levels outermost at tokens fault to ended reached lt e ends =
     let sound = sound_piece source levels at lt in
@@ -200,7 +214,8 @@ at_fault source levels outermost at tokens fault to ended reached lt e ends =
     fault_from source (reached.before ++ pieces.Fault fault to ∷ rest.0) (cond ended fault (directive_fault outermost))
     (reached.goes (pieces.Fault fault to ∷ rest.0) (lt, sym e, rest.1))
     (reached.judged (pieces.Fault fault to ∷ rest.0) ∙ by (closes (length levels.outer) (pieces.Fault fault to ∷ rest.0)) ended c) where
-      by : (c d : Bool) → c ≡ d → or_fault (cond c None (Some (directive_fault outermost))) (Some fault) ≡ Some (cond d fault (directive_fault outermost))
+      by : (c d : Bool) → c ≡ d → or_fault (cond c None (Some (directive_fault outermost))) (Some fault)
+          ≡ Some (cond d fault (directive_fault outermost))
       by true true h = refl
       by false false h = refl
       by true false h = absurd (false≢true (sym h))
@@ -230,7 +245,8 @@ sought_next source first start levels at piece sought lt e some =
       next inner [] rest some = absurd (omega arith)
       next inner (level ∷ outer) rest some = closes_next inner level outer piece rest
 
-      by : (rest : List Piece) → ((left : List Piece) × Cuts source levels at left × (closes (length first.outer) rest ≡ closes (length levels.outer) left))
+      by : (rest : List Piece) → ((left : List Piece) × Cuts source levels at left × (closes (length first.outer) rest
+          ≡ closes (length levels.outer) left))
           → (left : List Piece) × Cuts source (levels_after levels piece) (end_of piece) left
           × (closes (length first.outer) rest ≡ closes (length (levels_after levels piece).outer) left)
       by rest ([], cut, same) = absurd (omega (arith, cut))
@@ -245,9 +261,11 @@ sought_next source first start levels at piece sought lt e some =
 pub sought_to : (source : List ℕ) (first levels further : Levels) (start at to : ℕ) (piece : Piece) → Sought source first start levels at
     → at < length source → piece ≡ piece_at source levels at → 0 < length levels.outer → further ≡ levels_after levels piece → to ≡ end_of piece
     → Sought source first start further to
-sought_to source first levels further start at to piece sought lt e some l n = rw (l, n) (sought_next source first start levels at piece sought lt e some)
+sought_to source first levels further start at to piece sought lt e some l n = rw (l, n)
+    (sought_next source first start levels at piece sought lt e some)
 
-pub all_ended : (source : List ℕ) (first : Levels) (start : ℕ) (levels : Levels) (at : ℕ) → Sought source first start levels at → length levels.outer ≡ 0
+pub all_ended : (source : List ℕ) (first : Levels) (start : ℕ) (levels : Levels) (at : ℕ) → Sought source first start levels at
+    → length levels.outer ≡ 0
     → EndsAll source first start true
 all_ended source first start levels at sought none = λ rest cut.
     let f = sought.further rest cut in f.2 ∙ ap (λ n. closes n f.0) none
@@ -259,7 +277,8 @@ not_ended source first start levels at sought ge some = λ rest cut. by rest (so
   nothing [] some = absurd (omega arith)
   nothing (level ∷ outer) some = refl
 
-  by : (rest : List Piece) → ((left : List Piece) × Cuts source levels at left × (closes (length first.outer) rest ≡ closes (length levels.outer) left))
+  by : (rest : List Piece) → ((left : List Piece) × Cuts source levels at left × (closes (length first.outer) rest
+      ≡ closes (length levels.outer) left))
       → closes (length first.outer) rest ≡ false
   by rest ([], cut, same) = same ∙ nothing levels.outer some
   by rest (p ∷ left, cut, same) = absurd (omega (arith, cut.0))

@@ -37,7 +37,8 @@ same_place a b e = ap (λ (f : PatternFault). f.at) (by a b e) where
   by a b e = cc
 
 -- a fault that begins where its piece does
-sound_fault : (source : List ℕ) (at to : ℕ) (fault : PatternFault) → at < to → to ≤ length source → fault.at ≡ at → IsSound source at (pieces.Fault fault to)
+sound_fault : (source : List ℕ) (at to : ℕ) (fault : PatternFault) → at < to → to ≤ length source → fault.at ≡ at
+    → IsSound source at (pieces.Fault fault to)
 sound_fault source at to fault lt le here = record {
   ends = lt;
   within = le;
@@ -55,7 +56,8 @@ record HashFront (source : List ℕ) (at hash : ℕ) : Type 0 where
 blanks_end : (text : List ℕ) (n : ℕ) → blanks_before_hash text ≡ Some n → opens (drop n text) (codes "#") ≡ true
 unfolding blanks_before_hash
 blanks_end text n e = by (opens (drop (prefix_len is_blank text) text) (codes "#")) refl e where
-  by : (o : Bool) → opens (drop (prefix_len is_blank text) text) (codes "#") ≡ o → cond o (Some (prefix_len is_blank text)) None ≡ Some n → opens (drop n text) (codes "#") ≡ true
+  by : (o : Bool) → opens (drop (prefix_len is_blank text) text) (codes "#") ≡ o → cond o (Some (prefix_len is_blank text)) None ≡ Some n
+      → opens (drop n text) (codes "#") ≡ true
   by false h e = absurd cc
   by true h e = let same : prefix_len is_blank text ≡ n = cc in subst (λ k. opens (drop k text) (codes "#") ≡ true) same h
 
@@ -104,7 +106,8 @@ is_line (Some directive.Else) levels line = is_else levels.inner.other line
 is_line (Some directive.EndIf) levels line = is_end levels.outer line
 is_line None levels line = wrong_line line
 
-sound_line : (source : List ℕ) (levels : Levels) (at hash : ℕ) → hash_at source at ≡ Some hash → IsSound source at (directive_piece source levels hash)
+sound_line : (source : List ℕ) (levels : Levels) (at hash : ℕ) → hash_at source at ≡ Some hash
+    → IsSound source at (directive_piece source levels hash)
 sound_line source levels at hash e =
     let front = hash_front source at hash e in
     let left : length (drop hash source) ≡ length source - hash = length-drop hash source in
@@ -163,7 +166,8 @@ sound_token source at kind n le front = by (is_long kind (take n (drop at source
   by false h fault here = record {
     ends = omega (arith, front.long);
     within = omega (arith, front.within, left);
-    stands = λ t e. subst (λ (u : Token). (u.from ≡ at) × StandsIn source u) (token_is (token_of_bytes source at kind n) t e) (refl, token_stands source at kind n le front h);
+    stands = λ t e. subst (λ (u : Token). (u.from
+        ≡ at) × StandsIn source u) (token_is (token_of_bytes source at kind n) t e) (refl, token_stands source at kind n le front h);
     place = λ rest fault e. no_fault fault e;
   }
 
@@ -173,10 +177,12 @@ sound_bad source at lt = by (opens (drop at source) (codes "\"")) refl where
   left = length-drop at source
 
   by : (o : Bool) → opens (drop at source) (codes "\"") ≡ o
-      → IsSound source at (cond o (pieces.Fault (record { kind = OpenString; at = at; len = 0 }) (at + line_length (drop at source))) (pieces.Fault (record { kind = BadByte; at = at; len = 0 }) (at + 1)))
+      → IsSound source at (cond o (pieces.Fault (record { kind = OpenString; at = at; len = 0 }) (at + line_length (drop at source)))
+      (pieces.Fault (record { kind = BadByte; at = at; len = 0 }) (at + 1)))
   by true h =
       let line = opened_line 34 (drop at source) refl (opens_one 34 (drop at source) h) in
-      sound_fault source at (at + line_length (drop at source)) (record { kind = OpenString; at = at; len = 0 }) (omega (arith, line.0)) (omega (arith, line.1, left)) refl
+      sound_fault source at (at + line_length (drop at source)) (record { kind = OpenString; at = at; len = 0 }) (omega (arith, line.0)) (omega
+      (arith, line.1, left)) refl
   by false h = sound_fault source at (at + 1) (record { kind = BadByte; at = at; len = 0 }) (omega arith) (omega (arith, lt)) refl
 
 sound_taken : (source : List ℕ) (at : ℕ) → at < length source → IsSound source at (taken_piece source at)
@@ -190,7 +196,8 @@ sound_taken source at lt = by (separator_length (drop at source)) (separator_wit
   token (Some found) fronts = sound_token source at found.0 found.1 (omega (arith, lt)) (fronts found.0 found.1 refl)
   token None fronts = sound_bad source at lt
 
-  open_comment : (o : Bool) (fault : PatternFault) → fault.at ≡ at → IsSound source at (cond o (pieces.Fault fault (length source)) (token_or_fault source at (token_front (drop at source))))
+  open_comment : (o : Bool) (fault : PatternFault) → fault.at ≡ at
+      → IsSound source at (cond o (pieces.Fault fault (length source)) (token_or_fault source at (token_front (drop at source))))
   open_comment true fault here = sound_fault source at (length source) fault lt (omega arith) here
   open_comment false fault here = token (token_front (drop at source)) (front_of (drop at source))
 

@@ -2,13 +2,14 @@
 
 ghost use Rattle.std.specs.Prelude.{◌≡◌, ◌≤◌, ◌<◌, length, IfSome};
 ghost use Rattle.std.specs.List.{prefix_len};
-ghost use Rattle.pd_lexer.specs.Directives.{is_blank, line_begins, blanks_before_hash, hash_at, directive_of};
+ghost use Rattle.pd_lexer.specs.Directives.{is_blank, line_begins, blanks_before_hash, hash_at};
+ghost use Rattle.pd_lexer.specs.Directives.{directive_of};
 
 use lexing::{Row, beside, line_len};
 
 /// A directive.
 #[derive(Clone, Copy)]
-pub enum Directive {
+pub(crate) enum Directive {
     /// `#if`, with whether its condition holds.
     If(bool),
     Else,

@@ -14,22 +14,26 @@ pub fn an_outcome()
 
 /// A source has one list of tokens at most.
 pub fn one_list()
-    ensures { (source : List ℕ) (ts us : List Token) → AreTokens source ts → AreTokens source us → ts ≡ us }
+    ensures { (source : List ℕ) (ts us : List Token) →
+        AreTokens source ts → AreTokens source us → ts ≡ us }
 {}
 
 /// A source has one first fault at most.
 pub fn one_fault()
-    ensures { (source : List ℕ) (a b : PatternFault) → IsLexFault source a → IsLexFault source b → a ≡ b }
+    ensures { (source : List ℕ) (a b : PatternFault) →
+        IsLexFault source a → IsLexFault source b → a ≡ b }
 {}
 
 /// A source with a fault has no tokens.
 pub fn no_tokens()
-    ensures { (source : List ℕ) (fault : PatternFault) (ts : List Token) → IsLexFault source fault → AreTokens source ts → ⊥ }
+    ensures { (source : List ℕ) (fault : PatternFault) (ts : List Token) →
+        IsLexFault source fault → AreTokens source ts → ⊥ }
 {}
 
 /// The tokens stand in the source one behind the other, and the bytes of each spell its kind.
 pub fn tokens_stand()
-    ensures { (source : List ℕ) (ts : List Token) → AreTokens source ts → AreTokensOf source ts }
+    ensures { (source : List ℕ) (ts : List Token) →
+        AreTokens source ts → AreTokensOf source ts }
 {}
 
 /// No bytes at the front of a text spell a longer token than the one that begins it.

@@ -7,7 +7,7 @@ use std::alloc::{AllocError, Global};
 
 /// What an `#if` opens, or the source itself.
 #[derive(Clone, Copy)]
-pub struct Level {
+pub(crate) struct Level {
     /// Whether the part of it that is read now is taken.
     pub taken: bool,
     /// Whether the part behind its `#else` is taken, where it may have one yet.
@@ -16,7 +16,7 @@ pub struct Level {
 
 /// The level that a place lies in, and those round it.
 #[derive(Drop)]
-pub struct Nest {
+pub(crate) struct Nest {
     pub inner: Level,
     /// From the source itself up to the level round the inner one.
     pub outer: Vec<Level>,

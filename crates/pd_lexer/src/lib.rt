@@ -15,7 +15,8 @@ mod pieces;
 mod token;
 mod tokens;
 
-ghost use Rattle.std.specs.Prelude.{◌≡◌, ◌≤◌, ◌++◌, IfOk, IfErr, OnOk, MatchResult, List, length, if◌then◌else◌};
+ghost use Rattle.std.specs.Prelude.{◌≡◌, ◌≤◌, ◌++◌, IfOk, IfErr, OnOk, MatchResult, List, length};
+ghost use Rattle.std.specs.Prelude.{if◌then◌else◌};
 ghost use Rattle.pd_lexer.specs.declared.token.Token.{Token};
 ghost use Rattle.pm_ops.specs.Faults.{memory_fault};
 ghost use Rattle.pd_lexer.specs.Cuts.{AreTokens, EndsAll, token_of};
@@ -63,7 +64,7 @@ fn outermost_after(nest: &Nest, piece: Piece, before: usize) -> usize
     ensures { result ≡ outermost_after (levels_of nest.now) piece before }
 {
     match piece {
-        Piece::If(_, line) => { if nest.is_ground() { line.from } else { before } }
+        Piece::If(_, line) if nest.is_ground() => line.from,
         _ => before,
     }
 }
@@ -128,3 +129,6 @@ pub fn lex(alloc: Global, source: &[u8]) -> Result<Vec<Token>, PatternFault>
     }
     Ok(tokens)
 }
+
+#[cfg(test)]
+mod tests;

@@ -2,7 +2,8 @@
 
 ghost use Rattle.std.specs.Prelude.{◌≡◌, ◌≤◌, ◌<◌, ◌^◌, ◌+◌, ◌*◌, length, MatchOption};
 ghost use Rattle.std.specs.List.{prefix_len};
-ghost use Rattle.pd_lexer.specs.Numbers.{is_hex_digit, hex_length, digits_length, number_length, digit_value, value_after, number_value};
+ghost use Rattle.pd_lexer.specs.Numbers.{is_hex_digit, hex_length, digits_length, number_length};
+ghost use Rattle.pd_lexer.specs.Numbers.{digit_value, value_after, number_value};
 
 use lexing::{digits_len, is_digit, suffix_len};
 
@@ -73,7 +74,8 @@ fn digit_value(byte: u8) -> u8
 /// A number with one digit more; none from 2 to the 63rd on.
 fn with_digit(base: u64, number: u64, digit: u8) -> Option<u64>
     requires { base ≤ 16 }
-    ensures { MatchOption result (2 ^ 63 ≤ base * number + digit_value digit) (λ n. (n ≡ base * number + digit_value digit) × (n < 2 ^ 63)) }
+    ensures { MatchOption result (2 ^ 63 ≤ base * number + digit_value digit)
+        (λ n. (n ≡ base * number + digit_value digit) × (n < 2 ^ 63)) }
 {
     let longer = u128::from(base) * u128::from(number) + u128::from(digit_value(digit));
     if longer > GREATEST {
@@ -87,7 +89,8 @@ fn with_digit(base: u64, number: u64, digit: u8) -> Option<u64>
 fn value(base: u64, digits: &[u8]) -> Option<u64>
     requires at_least { 1 ≤ base }
     requires at_most { base ≤ 16 }
-    ensures { MatchOption result (2 ^ 63 ≤ value_after base 0 digits.now) (λ n. (n ≡ value_after base 0 digits.now) × (n < 2 ^ 63)) }
+    ensures { MatchOption result (2 ^ 63 ≤ value_after base 0 digits.now)
+        (λ n. (n ≡ value_after base 0 digits.now) × (n < 2 ^ 63)) }
 {
     let mut number = 0u64;
     for digit in digits {
@@ -103,7 +106,8 @@ fn value(base: u64, digits: &[u8]) -> Option<u64>
 /// ones. `None` exactly where it is above 2^63 - 1, which no token is. Takes no memory.
 #[tactic(auto, unfolding(crate::specs::Numbers::number_value))]
 pub fn number_value(text: &[u8]) -> Option<u64>
-    ensures { MatchOption result (2 ^ 63 ≤ number_value text.now) (λ n. (n ≡ number_value text.now) × (n < 2 ^ 63)) }
+    ensures { MatchOption result (2 ^ 63 ≤ number_value text.now)
+        (λ n. (n ≡ number_value text.now) × (n < 2 ^ 63)) }
 {
     let hex = hex_len(text);
     if hex == 0 {

@@ -3,10 +3,13 @@
 ghost use Rattle.std.specs.Prelude.{◌≡◌, ◌≤◌, ◌<◌, ◌+◌, ◌^◌, length, drop};
 ghost use Rattle.pd_lexer.specs.Directives.{hash_at};
 ghost use Rattle.pd_lexer.specs.Levels.{levels_of};
-ghost use Rattle.pd_lexer.specs.Pieces.{directive_fault, else_piece, end_piece, directive_piece, separator_length, is_capture, is_behind_word, is_long, token_piece, no_token_piece, token_or_fault, taken_piece, piece_at, end_of};
+ghost use Rattle.pd_lexer.specs.Pieces.{directive_fault, else_piece, end_piece, directive_piece};
+ghost use Rattle.pd_lexer.specs.Pieces.{separator_length, is_capture, is_behind_word, is_long};
+ghost use Rattle.pd_lexer.specs.Pieces.{token_piece, no_token_piece, token_or_fault, taken_piece};
+ghost use Rattle.pd_lexer.specs.Pieces.{piece_at, end_of};
 
 use crate::directives::{Directive, directive_of, hash_at};
-use crate::levels::{Level, Nest};
+use crate::levels::Nest;
 use crate::numbers::number_value;
 use crate::token::{Token, TokenKind};
 use crate::tokens::token_front;
@@ -16,7 +19,7 @@ use pm_places::Span;
 
 /// What begins at a place.
 #[derive(Clone, Copy)]
-pub enum Piece {
+pub(crate) enum Piece {
     /// What separates tokens, or isn't taken, with the place where it ends.
     Separator(usize),
     Token(Token),
