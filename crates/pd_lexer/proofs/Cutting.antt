@@ -76,3 +76,25 @@ pub tokens_stand : (source : List ℕ) (ts : List Token) → AreTokens source ts
 tokens_stand source ts are =
     let all = all_stand source ground 0 are.pieces are.cut in
     subst (AreTokensOf source) (sym are.are) (record { stand = all.0; in_order = all.1 })
+
+-- ---- parts of a list of tokens
+
+all_parts : (source : List ℕ) (front back : List Token) → AllStandIn source (front ++ back) → AllStandIn source front × AllStandIn source back
+all_parts source [] back all = (tt, all)
+all_parts source (t ∷ front) back all = let rest = all_parts source front back all.1 in ((all.0, rest.0), rest.1)
+
+ends_behind : (a to : ℕ) (ts : List Token) → InOrder a ts to → a ≤ to
+ends_behind a to [] h = h
+ends_behind a to (t ∷ ts) h = let later = ends_behind t.to to ts h.2 in omega (arith, h.0, h.1, later)
+
+order_parts : (a to : ℕ) (front back : List Token) → InOrder a (front ++ back) to → InOrder a front to × InOrder a back to
+order_parts a to [] back h = (ends_behind a to back h, h)
+order_parts a to (t ∷ front) back h =
+    let rest = order_parts t.to to front back h.2 in
+    ((h.0, h.1, rest.0), starts_later a t.to to back (omega (arith, h.0, h.1)) rest.1)
+
+pub parts_stand : (source : List ℕ) (front back : List Token) → AreTokensOf source (front ++ back) → AreTokensOf source front × AreTokensOf source back
+parts_stand source front back are =
+    let all = all_parts source front back are.stand in
+    let order = order_parts 0 (length source) front back are.in_order in
+    (record { stand = all.0; in_order = order.0 }, record { stand = all.1; in_order = order.1 })

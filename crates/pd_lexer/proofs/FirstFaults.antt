@@ -1,10 +1,11 @@
 -- The fault at the least place is the first one of the pieces, as they stand in the source.
-use Rattle.std.proofs.Common.{◌≡◌, ℕ, ◌<◌, ◌≤◌, ◌⊎◌, inl, inr, List, [], ◌∷◌, ◌++◌, Option, Some, None, refl, sym, ap, ◌∙◌, subst, arith}
+use Rattle.std.proofs.Common.{◌≡◌, ℕ, ◌<◌, ◌≤◌, ◌⊎◌, inl, inr, List, [], ◌∷◌, ◌++◌, length, Option, Some, None, refl, sym, ap, ◌∙◌, subst, arith}
 use Rattle.pm_ops.specs.declared.fault.PatternFault.{PatternFault}
 use Rattle.pm_places.specs.FirstFaults.{first_fault}
 use Rattle.pd_lexer.specs.declared.token.Token.{Token}
 use Rattle.pd_lexer.specs.declared.pieces.Piece.{Piece}
 use Rattle.pd_lexer.specs.Cuts.{Cuts, fault_of, tokens_of, IsFaultOf, AreTokens, IsLexFault, HasOutcome}
+use Rattle.pd_lexer.specs.Faults.{FaultStands}
 use Rattle.pd_lexer.specs.Levels.{Levels, ground}
 use Rattle.pd_lexer.specs.Pieces.{end_of, levels_after}
 use Rattle.pd_lexer.proofs.Cutting.{one_cut, some_cut}
@@ -50,14 +51,21 @@ first_stands (p ∷ ps) fault e = by (fault_of p ps) refl e (first_stands ps fau
   by (Some other) has e later = record { front = []; piece = p; rest = ps; splits = refl; has = has ∙ e }
 
 -- a fault stands within the pieces
-fault_behind : (source : List ℕ) (levels : Levels) (at : ℕ) (front : List Piece) (piece : Piece) (rest : List Piece) (fault : PatternFault)
-    → Cuts source levels at (front ++ piece ∷ rest) → fault_of piece rest ≡ Some fault → at ≤ fault.at
-fault_behind source levels at [] piece rest fault cut has = ((subst (IsSound source at) cut.1
-    (sound_piece source levels at cut.0)).place rest fault has).0
-fault_behind source levels at (p ∷ front) piece rest fault cut has =
+fault_stands : (source : List ℕ) (levels : Levels) (at : ℕ) (front : List Piece) (piece : Piece) (rest : List Piece) (fault : PatternFault)
+    → Cuts source levels at (front ++ piece ∷ rest) → fault_of piece rest ≡ Some fault → FaultStands at (length source) fault
+fault_stands source levels at [] piece rest fault cut has =
     let sound = subst (IsSound source at) cut.1 (sound_piece source levels at cut.0) in
-    let later = fault_behind source (levels_after levels p) (end_of p) front piece rest fault cut.2 has in
-    omega (arith, sound.ends, later)
+    let stands = sound.place rest fault has in
+    record {
+      behind = stands.behind;
+      before = omega (arith, stands.before, sound.within);
+      within = omega (arith, stands.within, sound.within);
+      lexical = stands.lexical;
+    }
+fault_stands source levels at (p ∷ front) piece rest fault cut has =
+    let sound = subst (IsSound source at) cut.1 (sound_piece source levels at cut.0) in
+    let later = fault_stands source (levels_after levels p) (end_of p) front piece rest fault cut.2 has in
+    record { behind = omega (arith, sound.ends, later.behind); before = later.before; within = later.within; lexical = later.lexical }
 
 -- the first fault is the one of a piece, or stands before it
 first_or_before : (source : List ℕ) (levels : Levels) (at : ℕ) (front : List Piece) (piece : Piece) (rest : List Piece) (first fault : PatternFault)
@@ -68,14 +76,14 @@ first_or_before source levels at [] piece rest first fault cut has e =
 first_or_before source levels at (p ∷ front) piece rest first fault cut has e =
     by (fault_of p (front ++ piece ∷ rest)) refl e
     (first_or_before source (levels_after levels p) (end_of p) front piece rest first fault cut.2 has)
-    (fault_behind source (levels_after levels p) (end_of p) front piece rest fault cut.2 has) where
+    (fault_stands source (levels_after levels p) (end_of p) front piece rest fault cut.2 has).behind where
       by : (o : Option PatternFault) → fault_of p (front ++ piece ∷ rest) ≡ o → first_fault (o ∷ faults (front ++ piece ∷ rest)) ≡ Some first
           → (first_fault (faults (front ++ piece ∷ rest)) ≡ Some first → (first ≡ fault) ⊎ (first.at < fault.at))
           → end_of p ≤ fault.at → (first ≡ fault) ⊎ (first.at < fault.at)
       by None own e later behind = later e
       by (Some other) own e later behind =
           let place = (subst (IsSound source at) cut.1 (sound_piece source levels at cut.0)).place (front ++ piece ∷ rest) first (own ∙ e) in
-          inr (omega (arith, place.1, behind))
+          inr (omega (arith, place.before, behind))
 
 -- ---- what the contracts say
 
@@ -145,3 +153,6 @@ outcome source = by (some_cut source ground 0 (omega arith)) where
     judged : (o : Option PatternFault) → first_fault (faults cut.0) ≡ o → HasOutcome source
     judged None e = inl (tokens_of cut.0, tokens_from source cut.0 (tokens_of cut.0) cut.1 e refl)
     judged (Some fault) e = inr (fault, fault_from source cut.0 fault cut.1 e)
+
+pub first_fault_stands : (source : List ℕ) (fault : PatternFault) → IsLexFault source fault → FaultStands 0 (length source) fault
+first_fault_stands source fault lex = fault_stands source ground 0 lex.is.front lex.is.piece lex.is.rest fault lex.is.cut lex.is.has

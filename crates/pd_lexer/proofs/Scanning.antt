@@ -9,9 +9,10 @@ use Rattle.pd_lexer.specs.declared.token.Token.{Token}
 use Rattle.pd_lexer.specs.declared.levels.Level.{Level}
 use Rattle.pd_lexer.specs.declared.pieces.Piece.{Piece}
 use Rattle.pd_lexer.specs.declared.pieces.Piece.TheVariants as pieces
-use Rattle.pd_lexer.specs.Cuts.{Cuts, closes, fault_of, token_of, tokens_of, AreTokens, IsLexFault, EndsAll}
+use Rattle.pd_lexer.specs.Cuts.{Cuts, closes, fault_of, token_of, tokens_of, AreTokens, IsLexFault}
 use Rattle.pd_lexer.specs.Levels.{Levels, ground, turned_to}
-use Rattle.pd_lexer.specs.Pieces.{directive_fault, piece_at, end_of, levels_after, outermost_after}
+use Rattle.pd_lexer.specs.Pieces.{directive_fault, piece_at, end_of, levels_after}
+use Rattle.pd_lexer.specs.Unended.{outermost_after, EndsAll}
 use Rattle.pd_lexer.proofs.Cutting.{some_cut}
 use Rattle.pd_lexer.proofs.FirstFaults.{faults, tokens_from, fault_from}
 use Rattle.pd_lexer.proofs.Sound.{sound_piece}
@@ -70,15 +71,6 @@ pub record Reached (source : List ℕ) (levels : Levels) (outermost at : ℕ) (t
   pub judged : (rest : List Piece)
       → first_fault (faults (before ++ rest)) ≡ or_fault (open_fault outermost (length levels.outer) rest) (first_fault (faults rest))
   pub within : at ≤ length source
-
-pub begun : (source : List ℕ) (levels : Levels) (tokens : List Token) → levels ≡ ground → tokens ≡ [] → Reached source levels 0 0 tokens
-begun source levels tokens g e = subst (λ ls. Reached source ls 0 0 tokens) (sym g) (record {
-  before = [];
-  goes = λ rest cut. cut;
-  are = e;
-  judged = λ rest. refl;
-  within = omega arith;
-})
 
 -- the piece has no fault of its own
 abbrev pub IsRight : Piece → Type 0
@@ -149,20 +141,20 @@ stepped source levels outermost at tokens piece reached lt e right =
     }
 
 -- a piece has bytes, and these lie in the source
-pub goes_on : (source : List ℕ) (levels : Levels) (at to : ℕ) (piece : Piece) → at < length source → piece ≡ piece_at source levels at
+pub goes_on : (source : List ℕ) (levels : Levels) {at to : ℕ} {piece : Piece} → at < length source → piece ≡ piece_at source levels at
     → to ≡ end_of piece
     → (at < to) × (to ≤ length source)
-goes_on source levels at to piece lt e t =
+goes_on source levels {at} {to} {piece} lt e t =
     let sound = sound_piece source levels at lt in
     let same : to ≡ end_of (piece_at source levels at) = t ∙ ap end_of e in
     (omega (arith, sound.ends, same), omega (arith, sound.within, same))
 
 -- the same, by what the calls say of it
-pub stepped_to : (source : List ℕ) (levels further : Levels) (outermost next at to : ℕ) (tokens us : List Token) (piece : Piece)
+pub stepped_to : {source : List ℕ} {levels further : Levels} {outermost next at to : ℕ} {tokens us : List Token} {piece : Piece}
     → Reached source levels outermost at tokens → at < length source → piece ≡ piece_at source levels at → IsRight piece
     → us ≡ tokens ++ token_of piece → next ≡ outermost_after levels piece outermost → further ≡ levels_after levels piece → to ≡ end_of piece
     → Reached source further next to us
-stepped_to source levels further outermost next at to tokens us piece reached lt e right t o l n =
+stepped_to {source} {levels} {further} {outermost} {next} {at} {to} {tokens} {us} {piece} reached lt e right t o l n =
     rw (t, o, l, n) (stepped source levels outermost at tokens piece reached lt e right)
 
 -- ---- the end, and faults
@@ -183,17 +175,17 @@ first_at_end : (source : List ℕ) (levels : Levels) (outermost at : ℕ) (token
     → first_fault (faults reached.before) ≡ or_fault (open_fault outermost (length levels.outer) []) None
 first_at_end source levels outermost at tokens reached = ap (λ ps. first_fault (faults ps)) (sym (append-nil reached.before)) ∙ reached.judged []
 
-pub read_whole : (source : List ℕ) (levels : Levels) (outermost at : ℕ) (tokens : List Token) → Reached source levels outermost at tokens
+pub read_whole : {source : List ℕ} {levels : Levels} {outermost at : ℕ} {tokens : List Token} → Reached source levels outermost at tokens
     → length source ≤ at
     → length levels.outer ≡ 0 → AreTokens source tokens
-read_whole source levels outermost at tokens reached ge none =
+read_whole {source} {levels} {outermost} {at} {tokens} reached ge none =
     tokens_from source reached.before tokens (at_end source levels outermost at tokens reached ge)
     (first_at_end source levels outermost at tokens reached ∙ ap (λ n. or_fault (open_fault outermost n []) None) none) reached.are
 
-pub left_open : (source : List ℕ) (levels : Levels) (outermost at : ℕ) (tokens : List Token) → Reached source levels outermost at tokens
+pub left_open : {source : List ℕ} {levels : Levels} {outermost at : ℕ} {tokens : List Token} → Reached source levels outermost at tokens
     → length source ≤ at
     → 0 < length levels.outer → IsLexFault source (directive_fault outermost)
-left_open source levels outermost at tokens reached ge some =
+left_open {source} {levels} {outermost} {at} {tokens} reached ge some =
     fault_from source reached.before (directive_fault outermost) (at_end source levels outermost at tokens reached ge)
     (first_at_end source levels outermost at tokens reached ∙ by levels.outer some) where
       by : (outer : List Level) → 0 < length outer → or_fault (open_fault outermost (length outer) []) None ≡ Some (directive_fault outermost)
@@ -201,11 +193,11 @@ left_open source levels outermost at tokens reached ge some =
       by (level ∷ outer) some = refl
 
 -- a piece with a fault, where the levels round it are ended or not
-pub at_fault : (source : List ℕ) (levels : Levels) (outermost at : ℕ) (tokens : List Token) (fault : PatternFault) (to : ℕ) (ended : Bool)
+pub at_fault : {source : List ℕ} {levels : Levels} {outermost at : ℕ} {tokens : List Token} {fault : PatternFault} {to : ℕ} {ended : Bool}
     → Reached source levels outermost at tokens → at < length source → pieces.Fault fault to ≡ piece_at source levels at
     → EndsAll source levels to ended
     → IsLexFault source (cond ended fault (directive_fault outermost))
-at_fault source levels outermost at tokens fault to ended reached lt e ends =
+at_fault {source} {levels} {outermost} {at} {tokens} {fault} {to} {ended} reached lt e ends =
     let sound = sound_piece source levels at lt in
     let within : to ≤ length source = subst (λ p. end_of p ≤ length source) (sym e) sound.within in
     let rest = some_cut source levels to within in
@@ -228,9 +220,6 @@ pub record Sought (source : List ℕ) (first : Levels) (start : ℕ) (levels : L
   pub further : (rest : List Piece) → Cuts source first start rest
       → (left : List Piece) × Cuts source levels at left × (closes (length first.outer) rest ≡ closes (length levels.outer) left)
   pub within : at ≤ length source
-
-pub sought_first : (source : List ℕ) (levels : Levels) (at : ℕ) → at ≤ length source → Sought source levels at levels at
-sought_first source levels at le = record { further = λ rest cut. (rest, cut, refl); within = le }
 
 pub sought_next : (source : List ℕ) (first : Levels) (start : ℕ) (levels : Levels) (at : ℕ) (piece : Piece) → Sought source first start levels at
     → at < length source → piece ≡ piece_at source levels at → 0 < length levels.outer
@@ -258,27 +247,8 @@ sought_next source first start levels at piece sought lt e some =
           )
 
 -- the same, by what the calls say of it
-pub sought_to : (source : List ℕ) (first levels further : Levels) (start at to : ℕ) (piece : Piece) → Sought source first start levels at
+pub sought_to : {source : List ℕ} {first levels further : Levels} {start at to : ℕ} {piece : Piece} → Sought source first start levels at
     → at < length source → piece ≡ piece_at source levels at → 0 < length levels.outer → further ≡ levels_after levels piece → to ≡ end_of piece
     → Sought source first start further to
-sought_to source first levels further start at to piece sought lt e some l n = rw (l, n)
+sought_to {source} {first} {levels} {further} {start} {at} {to} {piece} sought lt e some l n = rw (l, n)
     (sought_next source first start levels at piece sought lt e some)
-
-pub all_ended : (source : List ℕ) (first : Levels) (start : ℕ) (levels : Levels) (at : ℕ) → Sought source first start levels at
-    → length levels.outer ≡ 0
-    → EndsAll source first start true
-all_ended source first start levels at sought none = λ rest cut.
-    let f = sought.further rest cut in f.2 ∙ ap (λ n. closes n f.0) none
-
-pub not_ended : (source : List ℕ) (first : Levels) (start : ℕ) (levels : Levels) (at : ℕ) → Sought source first start levels at → length source ≤ at
-    → 0 < length levels.outer → EndsAll source first start false
-not_ended source first start levels at sought ge some = λ rest cut. by rest (sought.further rest cut) where
-  nothing : (outer : List Level) → 0 < length outer → closes (length outer) [] ≡ false
-  nothing [] some = absurd (omega arith)
-  nothing (level ∷ outer) some = refl
-
-  by : (rest : List Piece) → ((left : List Piece) × Cuts source levels at left × (closes (length first.outer) rest
-      ≡ closes (length levels.outer) left))
-      → closes (length first.outer) rest ≡ false
-  by rest ([], cut, same) = same ∙ nothing levels.outer some
-  by rest (p ∷ left, cut, same) = absurd (omega (arith, cut.0))

@@ -1,11 +1,12 @@
 -- What holds of the piece that begins at a place: it has bytes, these lie in the source, and a token stands there.
-use Rattle.std.proofs.Common.{◌≡◌, ℕ, ◌+◌, ◌-◌, ◌^◌, ◌<◌, ◌≤◌, Bool, true, false, cond, List, [], ◌∷◌, length, take, drop, codes, Option, Some, None, refl, sym, ap, ◌∙◌, subst, arith}
+use Rattle.std.proofs.Common.{◌≡◌, ℕ, ◌+◌, ◌-◌, ◌^◌, ◌<◌, ◌≤◌, Bool, true, false, cond, List, [], ◌∷◌, length, take, drop, codes, Option, Some, None, refl, ap, ◌∙◌, subst, arith}
 use Rattle.std.specs.Prelude.{option_map, nat_lt, ◌&&◌}
 use Rattle.std.specs.List.{prefix_len}
 use Rattle.std.proofs.lemmas.Bool.{ltb-true, not-false}
 use Rattle.std.proofs.lemmas.List.{length-drop, drop-drop}
 use Rattle.lexing.specs.Separators.{opens, line_length}
 use Rattle.pm_ops.specs.declared.fault.PatternFault.{PatternFault}
+use Rattle.pm_ops.specs.declared.fault.PatternKind.{PatternKind}
 use Rattle.pm_ops.specs.declared.fault.PatternKind.TheVariants.{BadByte, OpenComment, OpenString, LongNumber}
 use Rattle.pm_places.specs.declared.span.Span.{Span}
 use Rattle.pd_lexer.specs.declared.token.Token.{Token}
@@ -18,6 +19,7 @@ use Rattle.pd_lexer.specs.declared.pieces.Piece.{Piece}
 use Rattle.pd_lexer.specs.declared.pieces.Piece.TheVariants as pieces
 use Rattle.pd_lexer.specs.Cuts.{closes, fault_of}
 use Rattle.pd_lexer.specs.Directives.{is_blank, line_begins, blanks_before_hash, hash_at, directive_of}
+use Rattle.pd_lexer.specs.Faults.{IsLexical, FaultStands}
 use Rattle.pd_lexer.specs.Levels.{Levels}
 use Rattle.pd_lexer.specs.Numbers.{number_value}
 use Rattle.pd_lexer.specs.Pieces.{directive_fault, else_piece, end_piece, line_piece, directive_piece, separator_length, is_capture, is_behind_word, is_long, token_piece, no_token_piece, token_or_fault, behind_separators, taken_piece, piece_from, piece_at, end_of}
@@ -29,21 +31,18 @@ pub record IsSound (source : List ℕ) (at : ℕ) (piece : Piece) : Type 0 where
   pub ends : at < end_of piece
   pub within : end_of piece ≤ length source
   pub stands : (t : Token) → piece ≡ pieces.Token t → (t.from ≡ at) × StandsIn source t
-  pub place : (rest : List Piece) (fault : PatternFault) → fault_of piece rest ≡ Some fault → (at ≤ fault.at) × (fault.at < end_of piece)
+  pub place : (rest : List Piece) (fault : PatternFault) → fault_of piece rest ≡ Some fault → FaultStands at (end_of piece) fault
 
-same_place : (a b : PatternFault) → Some a ≡ Some b → a.at ≡ b.at
-same_place a b e = ap (λ (f : PatternFault). f.at) (by a b e) where
-  by : (a b : PatternFault) → Some a ≡ Some b → a ≡ b
-  by a b e = cc
+fault_is : (a b : PatternFault) → Some a ≡ Some b → a ≡ b
+fault_is a b e = cc
 
--- a fault that begins where its piece does
-sound_fault : (source : List ℕ) (at to : ℕ) (fault : PatternFault) → at < to → to ≤ length source → fault.at ≡ at
+sound_fault : (source : List ℕ) (at to : ℕ) (fault : PatternFault) → at < to → to ≤ length source → FaultStands at to fault
     → IsSound source at (pieces.Fault fault to)
-sound_fault source at to fault lt le here = record {
+sound_fault source at to fault lt le stands = record {
   ends = lt;
   within = le;
   stands = λ t e. absurd cc;
-  place = λ rest other e. let same = same_place fault other e in (omega (arith, here, same), omega (arith, here, same, lt));
+  place = λ rest other e. subst (FaultStands at to) (fault_is fault other e) stands;
 }
 
 -- ---- directive lines
@@ -78,19 +77,19 @@ hash_front source at hash e = by (line_begins source at) (blanks_before_hash (dr
 record IsLine (line : Span) (piece : Piece) : Type 0 where
   ends : end_of piece ≡ line.to
   other : (t : Token) → piece ≡ pieces.Token t → ⊥
-  place : (rest : List Piece) (fault : PatternFault) → fault_of piece rest ≡ Some fault → fault.at ≡ line.from
+  place : (rest : List Piece) (fault : PatternFault) → fault_of piece rest ≡ Some fault → directive_fault line.from ≡ fault
 
 no_fault : {P : Type 0} (fault : PatternFault) → None ≡ Some fault → P
 no_fault fault e = absurd cc
 
 wrong_line : (line : Span) → IsLine line (pieces.Fault (directive_fault line.from) line.to)
-wrong_line line = record { ends = refl; other = λ t e. cc; place = λ rest fault e. sym (same_place (directive_fault line.from) fault e) }
+wrong_line line = record { ends = refl; other = λ t e. cc; place = λ rest fault e. fault_is (directive_fault line.from) fault e }
 
 if_line : (holds : Bool) (line : Span) → IsLine line (pieces.If holds line)
 if_line holds line = record { ends = refl; other = λ t e. cc; place = λ rest fault e. by (closes 1 rest) fault e } where
-  by : (c : Bool) (fault : PatternFault) → cond c None (Some (directive_fault line.from)) ≡ Some fault → fault.at ≡ line.from
+  by : (c : Bool) (fault : PatternFault) → cond c None (Some (directive_fault line.from)) ≡ Some fault → directive_fault line.from ≡ fault
   by true fault e = no_fault fault e
-  by false fault e = sym (same_place (directive_fault line.from) fault e)
+  by false fault e = fault_is (directive_fault line.from) fault e
 
 is_else : (other : Option Bool) (line : Span) → IsLine line (else_piece other line)
 is_else (Some taken) line = record { ends = refl; other = λ t e. cc; place = λ rest fault e. no_fault fault e }
@@ -116,7 +115,12 @@ sound_line source levels at hash e =
       ends = omega (arith, front.behind, front.line.0, line.ends);
       within = omega (arith, front.line, line.ends);
       stands = λ t e. absurd (line.other t e);
-      place = λ rest fault e. let same = line.place rest fault e in (omega (arith, front.behind, same), omega (arith, front.line.0, line.ends, same));
+      place = λ rest fault e. subst (FaultStands at (end_of (directive_piece source levels hash))) (line.place rest fault e) (record {
+        behind = front.behind;
+        before = omega (arith, front.line.0, line.ends);
+        within = omega (arith, line.ends);
+        lexical = refl;
+      });
     }
 
 -- ---- parts that are taken
@@ -156,34 +160,47 @@ token_is t u e = cc
 sound_token : (source : List ℕ) (at : ℕ) (kind : TokenKind) (n : ℕ) → at ≤ length source → Front (drop at source) kind n
     → IsSound source at (token_piece source at kind n)
 unfolding token_of_bytes
-sound_token source at kind n le front = by (is_long kind (take n (drop at source))) refl (record { kind = LongNumber; at = at; len = n }) refl where
+sound_token source at kind n le front = by (is_long kind (take n (drop at source))) refl where
   left : length (drop at source) ≡ length source - at
   left = length-drop at source
 
-  by : (b : Bool) → is_long kind (take n (drop at source)) ≡ b → (fault : PatternFault) → fault.at ≡ at
-      → IsSound source at (cond b (pieces.Fault fault (at + n)) (pieces.Token (token_of_bytes source at kind n)))
-  by true h fault here = sound_fault source at (at + n) fault (omega (arith, front.long)) (omega (arith, front.within, left)) here
-  by false h fault here = record {
+  long : PatternFault
+  long = record { kind = LongNumber; at = at; len = n }
+
+  by : (b : Bool) → is_long kind (take n (drop at source)) ≡ b
+      → IsSound source at (cond b (pieces.Fault long (at + n)) (pieces.Token (token_of_bytes source at kind n)))
+  by true h = sound_fault source at (at + n) long (omega (arith, front.long)) (omega (arith, front.within, left))
+      (record { behind = omega arith; before = omega (arith, front.long); within = omega arith; lexical = front.long })
+  by false h = record {
     ends = omega (arith, front.long);
     within = omega (arith, front.within, left);
-    stands = λ t e. subst (λ (u : Token). (u.from
-        ≡ at) × StandsIn source u) (token_is (token_of_bytes source at kind n) t e) (refl, token_stands source at kind n le front h);
+    stands = λ t e. subst (λ (u : Token). (u.from ≡ at) × StandsIn source u) (token_is (token_of_bytes source at kind n) t e)
+        (refl, token_stands source at kind n le front h);
     place = λ rest fault e. no_fault fault e;
   }
+
+-- a fault without bytes that begins where its piece does
+stands_here : (at to : ℕ) (kind : PatternKind) → at < to → IsLexical kind 0 → FaultStands at to (record { kind = kind; at = at; len = 0 })
+stands_here at to kind lt lexical = record { behind = omega arith; before = lt; within = omega (arith, lt); lexical = lexical }
 
 sound_bad : (source : List ℕ) (at : ℕ) → at < length source → IsSound source at (no_token_piece at (drop at source))
 sound_bad source at lt = by (opens (drop at source) (codes "\"")) refl where
   left : length (drop at source) ≡ length source - at
   left = length-drop at source
 
+  open_text : PatternFault
+  open_text = record { kind = OpenString; at = at; len = 0 }
+
+  bad : PatternFault
+  bad = record { kind = BadByte; at = at; len = 0 }
+
   by : (o : Bool) → opens (drop at source) (codes "\"") ≡ o
-      → IsSound source at (cond o (pieces.Fault (record { kind = OpenString; at = at; len = 0 }) (at + line_length (drop at source)))
-      (pieces.Fault (record { kind = BadByte; at = at; len = 0 }) (at + 1)))
+      → IsSound source at (cond o (pieces.Fault open_text (at + line_length (drop at source))) (pieces.Fault bad (at + 1)))
   by true h =
       let line = opened_line 34 (drop at source) refl (opens_one 34 (drop at source) h) in
-      sound_fault source at (at + line_length (drop at source)) (record { kind = OpenString; at = at; len = 0 }) (omega (arith, line.0)) (omega
-      (arith, line.1, left)) refl
-  by false h = sound_fault source at (at + 1) (record { kind = BadByte; at = at; len = 0 }) (omega arith) (omega (arith, lt)) refl
+      let to = at + line_length (drop at source) in
+      sound_fault source at to open_text (omega (arith, line.0)) (omega (arith, line.1, left)) (stands_here at to OpenString (omega (arith, line.0)) refl)
+  by false h = sound_fault source at (at + 1) bad (omega arith) (omega (arith, lt)) (stands_here at (at + 1) BadByte (omega arith) refl)
 
 sound_taken : (source : List ℕ) (at : ℕ) → at < length source → IsSound source at (taken_piece source at)
 unfolding taken_piece
@@ -196,14 +213,16 @@ sound_taken source at lt = by (separator_length (drop at source)) (separator_wit
   token (Some found) fronts = sound_token source at found.0 found.1 (omega (arith, lt)) (fronts found.0 found.1 refl)
   token None fronts = sound_bad source at lt
 
-  open_comment : (o : Bool) (fault : PatternFault) → fault.at ≡ at
-      → IsSound source at (cond o (pieces.Fault fault (length source)) (token_or_fault source at (token_front (drop at source))))
-  open_comment true fault here = sound_fault source at (length source) fault lt (omega arith) here
-  open_comment false fault here = token (token_front (drop at source)) (front_of (drop at source))
+  unended : PatternFault
+  unended = record { kind = OpenComment; at = at; len = 0 }
+
+  open_comment : (o : Bool) → IsSound source at (cond o (pieces.Fault unended (length source)) (token_or_fault source at (token_front (drop at source))))
+  open_comment true = sound_fault source at (length source) unended lt (omega arith) (stands_here at (length source) OpenComment lt refl)
+  open_comment false = token (token_front (drop at source)) (front_of (drop at source))
 
   by : (o : Option ℕ) → ((n : ℕ) → o ≡ Some n → (0 < n) × (n ≤ length (drop at source))) → IsSound source at (behind_separators source at o)
   by (Some n) within = let w = within n refl in sound_separator source at (at + n) (omega (arith, w)) (omega (arith, w, left))
-  by None within = open_comment (opens (drop at source) (codes "/*")) (record { kind = OpenComment; at = at; len = 0 }) refl
+  by None within = open_comment (opens (drop at source) (codes "/*"))
 
 -- ---- all of them
 

@@ -13,7 +13,7 @@ Cuts source levels at [] = at ≡ length source
 Cuts source levels at (piece ∷ rest) =
     (at < length source) × (piece_at source levels at ≡ piece) × Cuts source (levels_after levels piece) (end_of piece) rest
 
--- the pieces have an `#endif` for each of as many levels that are open before them
+-- whether the pieces end so many levels that are open before them: an `#if` among them takes an `#endif` for itself
 abbrev pub closes : ℕ → List Piece → Bool
 closes zero rest = true
 closes (suc n) [] = false
@@ -58,7 +58,3 @@ pub record IsLexFault (source : List ℕ) (fault : PatternFault) : Type 0 where
 -- the source has tokens, or a first fault
 abbrev pub HasOutcome : List ℕ → Type 0
 HasOutcome source = ((tokens : List Token) × AreTokens source tokens) ⊎ ((fault : PatternFault) × IsLexFault source fault)
-
--- whether each `#if` that is open before a place is ended behind it
-abbrev pub EndsAll : List ℕ → Levels → ℕ → Bool → Type 0
-EndsAll source levels at ended = (rest : List Piece) → Cuts source levels at rest → closes (length levels.outer) rest ≡ ended

@@ -9,3 +9,4 @@ pub mod Pieces
 pub mod Spans
 pub mod Spelled
 pub mod Tokens
+pub mod Unended

@@ -117,12 +117,3 @@ levels_after levels (pieces.If holds line) = opened holds levels
 levels_after levels (pieces.Else line) = turned levels
 levels_after levels (pieces.EndIf line) = closed levels
 levels_after levels piece = levels
-
--- where the outermost `#if` that is open stands, behind a piece
-abbrev pub outermost_from : List Level → ℕ → ℕ → ℕ
-outermost_from [] hash before = hash
-outermost_from (level ∷ outer) hash before = before
-
-abbrev pub outermost_after : Levels → Piece → ℕ → ℕ
-outermost_after levels (pieces.If holds line) before = outermost_from levels.outer line.from before
-outermost_after levels piece before = before

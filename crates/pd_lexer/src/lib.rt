@@ -19,10 +19,11 @@ ghost use Rattle.std.specs.Prelude.{◌≡◌, ◌≤◌, ◌++◌, IfOk, IfErr,
 ghost use Rattle.std.specs.Prelude.{if◌then◌else◌};
 ghost use Rattle.pd_lexer.specs.declared.token.Token.{Token};
 ghost use Rattle.pm_ops.specs.Faults.{memory_fault};
-ghost use Rattle.pd_lexer.specs.Cuts.{AreTokens, EndsAll, token_of};
+ghost use Rattle.pd_lexer.specs.Cuts.{AreTokens, token_of};
 ghost use Rattle.pd_lexer.specs.Faults.{IsCause};
 ghost use Rattle.pd_lexer.specs.Levels.{levels_of};
-ghost use Rattle.pd_lexer.specs.Pieces.{directive_fault, levels_after, outermost_after};
+ghost use Rattle.pd_lexer.specs.Pieces.{directive_fault, levels_after};
+ghost use Rattle.pd_lexer.specs.Unended.{outermost_after, EndsAll};
 
 use levels::Nest;
 pub use numbers::number_value;
@@ -96,10 +97,13 @@ fn earlier(ended: bool, fault: PatternFault, outermost: usize) -> PatternFault
     }
 }
 
-/// The tokens of a source.
+/// The tokens of a source, which is pattern text as GCC's `match.pd` has it.
 ///
-/// A fault is the first one in the order of the file, with an `#if` that isn't ended among them. So
-/// behind another fault the source is looked through for what ends the `#if` that are open.
+/// A fault is the first one in the order of the file: `BadByte` where no token begins, `OpenComment`
+/// and `OpenString` at a `/*` or `"` without its end, `LongNumber` at a number above 2^63 - 1, and
+/// `Directive` at the `#` of a line that is no known directive, of an `#else` or `#endif` out of
+/// place, and of an `#if` that isn't ended. So behind another fault the source is looked through
+/// for what ends the `#if` that are open. `Memory` is no fault of the source.
 pub fn lex(alloc: Global, source: &[u8]) -> Result<Vec<Token>, PatternFault>
     // What is answered are the tokens of the source.
     ensures found { IfOk result (λ tokens. AreTokens source.now tokens.items) }
