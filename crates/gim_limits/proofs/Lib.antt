@@ -1,3 +1,4 @@
 pub mod LimitLemmas
 pub mod LimitsKept
 pub mod DifferentLemmas
+pub mod DifferentTexts

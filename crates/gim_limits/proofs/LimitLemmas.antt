@@ -6,7 +6,7 @@ use Rattle.gim_ast.specs.WellFormed.{same_text}
 use Rattle.gim_shape.specs.Blocks.{is_among}
 use Rattle.gim_limits.specs.Limits.{different}
 use Rattle.gim_limits.specs.Seen.{Takes}
-use Rattle.gim_shape.proofs.TableLemmas.{same_text_symm}
+use Rattle.gim_text.proofs.SameTexts.{same_text_symm}
 
 pub not_full : (among full : Bool) → full ≡ false → false ≡ (not among && full)
 not_full true full e = refl
@@ -24,11 +24,14 @@ either_way false false c d e f = f
 either_way true false c d e f = absurd cc
 either_way false true c d e f = absurd cc
 
-pub among_latest : (texts : List (List ℕ)) (text q : List ℕ) (old new : Bool) → new ≡ cond (same_text text q) true old → old ≡ is_among texts q
+pub among_latest : (texts : List (List ℕ)) (text q : List ℕ) (old new : Bool) → new ≡ cond (same_text text q) true old
+    → old ≡ is_among texts q
     → new ≡ is_among (text ∷ texts) q
-among_latest texts text q old new adds has = adds ∙ either_way (same_text text q) (same_text q text) old (is_among texts q) (same_text_symm text q) has
+among_latest texts text q old new adds has =
+    adds ∙ either_way (same_text text q) (same_text q text) old (is_among texts q) (same_text_symm text q) has
 
-pub one_more : (texts : List (List ℕ)) (text : List ℕ) (count : ℕ) → count ≡ different texts → is_among texts text ≡ false → count + 1 ≡ different (text ∷ texts)
+pub one_more : (texts : List (List ℕ)) (text : List ℕ) (count : ℕ) → count ≡ different texts
+    → is_among texts text ≡ false → count + 1 ≡ different (text ∷ texts)
 one_more texts text count counted new = rw (new, add-one) (ap suc counted)
 
 pub other_count : (count n limit : ℕ) → count ≡ n → (count ≡ limit → ⊥) → (n == limit) ≡ false

@@ -2,7 +2,6 @@
 use Rattle.std.proofs.Common.{◌≡◌, ℕ, Bool, true, false, cond, Option, Some, None, List, [], ◌∷◌, ◌++◌, map, refl, sym, ap, subst, ◌∙◌, inl, inr}
 use Rattle.std.specs.Prelude.{◌==◌, ◌&&◌, ◌||◌, not, filter, IsSome}
 use Rattle.std.specs.List.{flat_map, list_any, list_all}
-use Rattle.std.specs.Option.{option_map_or}
 use Rattle.std.proofs.lemmas.Bool.{and_parts, and_from, eqb-true, eq-eqb, false≢true}
 use Rattle.pm_wide.specs.declared.operand.Operand.{Operand}
 use Rattle.gim_ast.specs.declared.function.Block.{Block}
@@ -12,6 +11,7 @@ use Rattle.gim_ast.specs.Functions.{targets_of}
 use Rattle.gim_ast.specs.WellFormed as ast
 use Rattle.gim_ast.specs.WellFormed.{same_text, all_distinct, is_empty, entry_has_no_phi, phi_blocks, phi_holds, blocks_hold}
 use Rattle.pm_places.specs.declared.span.Span.{Span}
+use Rattle.gim_text.proofs.SameTexts.{same_text_itself, same_text_is}
 use Rattle.gim_text.specs.declared.tree.ArgText.{ArgText}
 use Rattle.gim_text.specs.declared.tree.BlockText.{BlockText}
 use Rattle.gim_text.specs.declared.tree.EndText.{EndText}
@@ -23,7 +23,7 @@ use Rattle.gim_text.specs.Occurrences.{targets_in_end}
 use Rattle.pm_places.specs.Spans.{text_of}
 use Rattle.gim_names.specs.Kept.{KeepsNames, number_text}
 use Rattle.gim_shape.specs.Blocks as shape
-use Rattle.gim_shape.specs.Blocks.{named_at, jumps_of_end, jumps_of, jumps_to, predecessors}
+use Rattle.gim_shape.specs.Blocks.{named_at, jumps_of, jumps_to, predecessors}
 use Rattle.gim_shape.specs.Kept.{ItemFits, HasNoPhi, Leads, BlockHolds, HasEntry, HasShape}
 use Rattle.gim_shape.specs.Phis.{named_by_args, has_args, is_each_once}
 use Rattle.gim_limits.specs.Kept.{KeepsLimits}
@@ -31,10 +31,10 @@ use Rattle.gim_making.specs.Declarations.{Declarations, declarations_of, number_
 use Rattle.gim_making.specs.Standing.{made}
 use Rattle.gim_making.specs.Trees.{arg_of, phi_of, end_of, block_of}
 use Rattle.gim_making.specs.Written.{IsWritten}
-use Rattle.gim_making.proofs.Membership.{Has, from_map, from_flat, all_from_has, each_has}
+use Rattle.gim_text.proofs.Membership.{Has, from_map, from_flat, all_from_has, each_has}
 use Rattle.gim_making.proofs.Occurring.{target_occurs, argument_occurs}
 use Rattle.gim_making.proofs.MadeLemmas.{no_phis}
-use Rattle.gim_making.proofs.PartLemmas.{text_itself, same_text_is, IsSmall, same_number}
+use Rattle.gim_making.proofs.PartLemmas.{IsSmall, same_number}
 use Rattle.gim_making.proofs.SmallNumbers.{small_block, small_target}
 
 -- ---- numbers and their texts
@@ -51,13 +51,13 @@ either_way false false to from = refl
 same_test : (a b : List ℕ) → IsSmall a → IsSmall b → (number_of a == number_of b) ≡ same_text a b
 same_test a b small_a small_b =
     either_way (number_of a == number_of b) (same_text a b)
-    (λ h. ap (λ x. same_text x b) (same_number a b small_a small_b (eqb-true (number_of a) (number_of b) h)) ∙ text_itself b)
+    (λ h. ap (λ x. same_text x b) (same_number a b small_a small_b (eqb-true (number_of a) (number_of b) h)) ∙ same_text_itself b)
     (λ h. ap (λ x. number_of x == number_of b) (same_text_is a b h) ∙ eq-eqb (number_of b) (number_of b) refl)
 
 turned_test : (a b : List ℕ) → IsSmall a → IsSmall b → (number_of a == number_of b) ≡ same_text b a
 turned_test a b small_a small_b =
     either_way (number_of a == number_of b) (same_text b a)
-    (λ h. ap (λ x. same_text b x) (same_number a b small_a small_b (eqb-true (number_of a) (number_of b) h)) ∙ text_itself b)
+    (λ h. ap (λ x. same_text b x) (same_number a b small_a small_b (eqb-true (number_of a) (number_of b) h)) ∙ same_text_itself b)
     (λ h. ap (λ x. number_of a == number_of x) (same_text_is b a h) ∙ eq-eqb (number_of a) (number_of a) refl)
 
 among : (ts : List (List ℕ)) (t : List ℕ) → AllSmall ts → IsSmall t → ast.is_among (number_of t) (map number_of ts) ≡ shape.is_among ts t
@@ -93,13 +93,8 @@ numbers_small source tree written limits t there =
 
 -- ---- jumps
 
-jump_is_target : (end : EndText) (at : Span) → Has (jumps_of_end end) at → Has (targets_in_end (Some end)) at
-jump_is_target (Goto to) at h = h
-jump_is_target (If code a b yes_to no_to) at h = h
-jump_is_target (Return a) at h = h
-
 -- the targets of an end that is there
-targets_are : (known : Declarations) (end : EndText) → targets_of (end_of known (Some end)) ≡ map (λ at. number_of (named_at known.source at)) (jumps_of_end end)
+targets_are : (known : Declarations) (end : EndText) → targets_of (end_of known (Some end)) ≡ map (λ at. number_of (named_at known.source at)) (targets_in_end (Some end))
 targets_are known (Goto to) = refl
 targets_are known (If code a b yes_to no_to) = refl
 targets_are known (Return a) = refl
@@ -113,25 +108,25 @@ record Known (source : List ℕ) (tree : FunctionText) (block : BlockText) : Typ
   there : Has tree.blocks block
   end : EndText
   ends : block.end ≡ Some end
-  jumps : (at : Span) → Has (jumps_of_end end) at → IsSmall (named_at source at)
-  leads : (at : Span) → Has (jumps_of_end end) at → shape.is_among (map (number_text source) tree.blocks) (named_at source at) ≡ true
+  jumps : (at : Span) → Has (targets_in_end (Some end)) at → IsSmall (named_at source at)
+  leads : (at : Span) → Has (targets_in_end (Some end)) at → shape.is_among (map (number_text source) tree.blocks) (named_at source at) ≡ true
   number : IsSmall (text_of source block.number)
 
 known_block : (source : List ℕ) (tree : FunctionText) → IsWritten source tree → KeepsLimits source tree → HasShape source tree → (block : BlockText) → Has tree.blocks block → Known source tree block
 known_block source tree written limits shaped block there =
     let holds = each_has (BlockHolds source tree.blocks) tree.blocks shaped.blocks block there in
     let e = some_end block.end holds.end in
-    let jumps_same : jumps_of block ≡ jumps_of_end e.0 = ap (λ o. option_map_or jumps_of_end o []) e.1 in
+    let jumps_same : jumps_of block ≡ targets_in_end (Some e.0) = ap targets_in_end e.1 in
     record {
       there = there;
       end = e.0;
       ends = e.1;
-      jumps = λ at h. small_target source tree written limits at (target_occurs tree block at there (subst (λ o. Has (targets_in_end o) at) (sym e.1) (jump_is_target e.0 at h)));
+      jumps = λ at h. small_target source tree written limits at (target_occurs tree block at there (subst (λ o. Has (targets_in_end o) at) (sym e.1) h));
       leads = λ at h. each_has (Leads source tree.blocks) (jumps_of block) holds.jumps at (subst (λ l. Has l at) (sym jumps_same) h);
       number = small_block source tree written limits block there;
     }
 
-block_targets : (source : List ℕ) (tree : FunctionText) (block : BlockText) (k : Known source tree block) → targets_of (end_of (declarations_of source tree) block.end) ≡ map (λ at. number_of (named_at source at)) (jumps_of_end k.end)
+block_targets : (source : List ℕ) (tree : FunctionText) (block : BlockText) (k : Known source tree block) → targets_of (end_of (declarations_of source tree) block.end) ≡ map (λ at. number_of (named_at source at)) (targets_in_end (Some k.end))
 block_targets source tree block k = ap (λ o. targets_of (end_of (declarations_of source tree) o)) k.ends ∙ targets_are (declarations_of source tree) k.end
 
 target_known : (source : List ℕ) (tree : FunctionText) → IsWritten source tree → KeepsLimits source tree → HasShape source tree → (n : ℕ) → Has (flat_map (λ (block : Block). targets_of block.end) (map (block_of (declarations_of source tree)) tree.blocks)) n
@@ -142,7 +137,7 @@ target_known source tree written limits shaped n h =
     let b = from_map (block_of known) tree.blocks r.0 r.1 in
     let k = known_block source tree written limits shaped b.0 b.1 in
     let target : Has (targets_of (end_of known b.0.end)) n = subst (λ (x : Block). Has (targets_of x.end) n) (sym b.2) r.2 in
-    let a = from_map (λ at. number_of (named_at source at)) (jumps_of_end k.end) n (subst (λ l. Has l n) (block_targets source tree b.0 k) target) in
+    let a = from_map (λ at. number_of (named_at source at)) (targets_in_end (Some k.end)) n (subst (λ l. Has l n) (block_targets source tree b.0 k) target) in
     ap (λ m. ast.is_among m (map number_of (map (number_text source) tree.blocks))) (sym a.2)
     ∙ among (map (number_text source) tree.blocks) (named_at source a.0) (numbers_small source tree written limits) (k.jumps a.0 a.1) ∙ k.leads a.0 a.1
 
@@ -156,8 +151,8 @@ jumps_test source nt (at ∷ spans) one small =
 
 block_jumps : (source : List ℕ) (tree : FunctionText) (nt : List ℕ) (block : BlockText) (k : Known source tree block) → IsSmall nt → list_any (λ to. to == number_of nt) (targets_of (end_of (declarations_of source tree) block.end)) ≡ jumps_to source nt block
 block_jumps source tree nt block k one =
-    ap (list_any (λ to. to == number_of nt)) (block_targets source tree block k) ∙ jumps_test source nt (jumps_of_end k.end) one k.jumps
-    ∙ ap (list_any (λ at. same_text nt (named_at source at))) (sym (ap (λ o. option_map_or jumps_of_end o []) k.ends))
+    ap (list_any (λ to. to == number_of nt)) (block_targets source tree block k) ∙ jumps_test source nt (targets_in_end (Some k.end)) one k.jumps
+    ∙ ap (list_any (λ at. same_text nt (named_at source at))) (sym (ap targets_in_end k.ends))
 
 preds_by : (source nt : List ℕ) (b c : Bool) (block : BlockText) (front : List ℕ) (later : List BlockText) → b ≡ c → front ≡ map number_of (map (text_of source) (map (λ (x : BlockText). x.number) later))
     → cond b (number_of (text_of source block.number) ∷ []) [] ++ front ≡ map number_of (map (text_of source) (map (λ (x : BlockText). x.number) (cond c (block ∷ later) later)))

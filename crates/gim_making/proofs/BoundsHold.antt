@@ -10,6 +10,8 @@ use Rattle.std.proofs.lemmas.Map.Made.{length-le_from_is_member}
 use Rattle.gim_ast.specs.declared.function.NameRow.{NameRow}
 use Rattle.gim_ast.specs.Functions.{operands_of}
 use Rattle.gim_ast.specs.WellFormed.{same_text, rises, bounds_hold}
+use Rattle.gim_text.proofs.SameTexts.{same_text_is}
+use Rattle.gim_text.specs.declared.limits.TheConstants.{BLOCK_LIMIT, NAME_LIMIT}
 use Rattle.gim_text.specs.declared.tree.FunctionText.{FunctionText}
 use Rattle.gim_text.specs.Occurrences.{occurrences_of}
 use Rattle.gim_names.specs.Kept.{KeepsNames}
@@ -21,10 +23,9 @@ use Rattle.gim_making.specs.Names.{AreNames, version_of, name_place, named_rows}
 use Rattle.gim_making.specs.Standing.{made}
 use Rattle.gim_making.specs.Trees.{operand_of, block_of}
 use Rattle.gim_making.specs.Written.{operands_in, IsWritten}
-use Rattle.gim_making.proofs.Membership.{Has, from_map, has_said, from_said, any_has, any_from_has}
+use Rattle.gim_text.proofs.Membership.{Has, from_map, has_said, from_said, any_has, any_from_has}
 use Rattle.gim_making.proofs.MadeLemmas.{ArePhisFirst, made_operands}
 use Rattle.gim_making.proofs.NameRowLemmas.{above, name_is_row}
-use Rattle.gim_making.proofs.PartLemmas.{same_text_is}
 use Rattle.gim_making.proofs.PlaceLemmas.{AreSmall, row_place}
 use Rattle.gim_making.proofs.SmallNumbers.{named_version}
 
@@ -106,7 +107,7 @@ distinct_digits (row ∷ rows) up h =
       distinct_digits rows p.1 (λ x there. h x (inr there)),
     )
 
-pub few_names : (source : List ℕ) (tree : FunctionText) (names : List NameRow) → KeepsNames source tree → AreSmall source tree → KeepsLimits source tree → AreNames (named_rows source tree) names → length names ≤ 20000
+pub few_names : (source : List ℕ) (tree : FunctionText) (names : List NameRow) → KeepsNames source tree → AreSmall source tree → KeepsLimits source tree → AreNames (named_rows source tree) names → length names ≤ NAME_LIMIT
 few_names source tree names kept small limits are =
     let versions = versions_of source (occurrences_of tree) in
     let digits = map version_digits names in
@@ -120,7 +121,7 @@ few_names source tree names kept small limits are =
     let fewer : length digits ≤ length (unique_keys same_text versions) = length-le_from_is_member nat_list_eq_equiv digits (unique_keys same_text versions) apart known in
     let same : length digits ≡ length names = length-map version_digits names in
     let all : different versions ≡ length (unique_keys same_text versions) = different_is versions in
-    let limit : different versions ≤ 20000 = limits.names in
+    let limit : different versions ≤ NAME_LIMIT = limits.names in
     omega arith
 
 -- ---- the whole
@@ -131,9 +132,9 @@ bounds source tree names written kept small first limits are =
     let f = made source tree names in
     let blocks = map (block_of (declarations_of source tree)) tree.blocks in
     let as_many : length blocks ≡ length tree.blocks = length-map (block_of (declarations_of source tree)) tree.blocks in
-    let block_limit : length tree.blocks ≤ 2000 = limits.blocks in
+    let block_limit : length tree.blocks ≤ BLOCK_LIMIT = limits.blocks in
     let few_blocks : length blocks < 2 ^ 31 = omega arith in
-    let name_limit : length names ≤ 20000 = few_names source tree names kept small limits are in
+    let name_limit : length names ≤ NAME_LIMIT = few_names source tree names kept small limits are in
     let few_rows : length names < 2 ^ 31 = omega arith in
     let operands : length (operands_of f) ≡ length (operands_in tree) = ap length (made_operands source tree names first) ∙ length-map (operand_of (declarations_of source tree)) (operands_in tree) in
     let few_texts : length (operands_in tree) < 2 ^ 31 = written.few in

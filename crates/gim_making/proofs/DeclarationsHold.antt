@@ -17,7 +17,7 @@ use Rattle.gim_names.specs.Kept.{KeepsNames, ident_text, params_of, locals_of}
 use Rattle.gim_making.specs.Standing.{made}
 use Rattle.gim_making.specs.Trees.{decl_of}
 use Rattle.gim_making.specs.Written.{has_written_type, is_written, IsWritten}
-use Rattle.gim_making.proofs.Membership.{map-append}
+use Rattle.gim_text.proofs.Membership.{map-append}
 
 idents : (source : List ℕ) (decls : List DeclText) → map ident_of (map (decl_of source) decls) ≡ map (ident_text source) decls
 idents source [] = refl

@@ -3,9 +3,9 @@ use Rattle.std.proofs.Common.{◌≡◌, ℕ, ◌-◌, ◌<◌, ◌≤◌, cond,
 use Rattle.std.specs.Str.{bytes_eq}
 use Rattle.std.specs.Cmp.Lexicographic.{nat_list_eq_equiv}
 use Rattle.pm_wide.specs.Types.{Ty}
+use Rattle.gim_text.proofs.FrontsAndRests.{item_before}
 use Rattle.gim_text.specs.declared.tree.DeclText.{DeclText}
 use Rattle.pm_places.specs.Spans.{text_of}
-use Rattle.gim_names.proofs.TableLemmas.{item_before}
 use Rattle.gim_making.specs.Declarations.{declared_type}
 
 -- one declaration more, before the others

@@ -1,7 +1,6 @@
 pub mod DeclaredLemmas
 pub mod RowLemmas
 pub mod ListLemmas
-pub mod Membership
 pub mod MadeLemmas
 pub mod PartLemmas
 pub mod PlaceLemmas
@@ -15,3 +14,4 @@ pub mod SmallNumbers
 pub mod BlocksHold
 pub mod BoundsHold
 pub mod Sound
+pub mod Filters

@@ -27,7 +27,7 @@ use Rattle.gim_making.specs.Declarations.{Declarations, declarations_of, version
 use Rattle.gim_making.specs.Standing.{made}
 use Rattle.gim_making.specs.Trees.{operand_of, rhs_of, arg_of, phi_of, stmt_of, end_of, block_of}
 use Rattle.gim_making.specs.Written.{operands_in}
-use Rattle.gim_making.proofs.Membership.{Has, flat_of_map_at, flat_same, map-append, map_of_flat}
+use Rattle.gim_text.proofs.Membership.{Has, flat_of_map_at, flat_same, map-append, map_of_flat}
 
 -- ---- phis before statements
 

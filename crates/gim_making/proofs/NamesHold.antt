@@ -11,6 +11,7 @@ use Rattle.gim_ast.specs.Functions.{assigned, is_used}
 use Rattle.gim_ast.specs.Identifiers.{is_anonymous, anonymous}
 use Rattle.gim_ast.specs.WellFormed.{same_text, all_distinct, rises, declares_as, base_holds, row_stands, is_assigned, initial_bases, names_hold}
 use Rattle.pm_places.specs.declared.span.Span.{Span}
+use Rattle.gim_text.proofs.SameTexts.{same_text_itself, same_text_is}
 use Rattle.gim_text.specs.declared.tree.DeclText.{DeclText}
 use Rattle.gim_text.specs.declared.tree.FunctionText.{FunctionText}
 use Rattle.gim_text.specs.Texts.{name_parts}
@@ -25,10 +26,10 @@ use Rattle.gim_making.specs.Declarations.{Declarations, declarations_of, declare
 use Rattle.gim_making.specs.Names.{AreNames, version_of, plain, default_at, name_place, names_in, named_rows}
 use Rattle.gim_making.specs.Standing.{made}
 use Rattle.gim_making.specs.Trees.{decl_of}
-use Rattle.gim_making.proofs.Membership.{Has, from_flat, from_map, has_said, from_said, all_from_has, any_from_has, none_from_has}
+use Rattle.gim_text.proofs.Membership.{Has, from_flat, from_map, has_said, from_said, all_from_has, any_from_has, none_from_has}
 use Rattle.gim_making.proofs.MadeLemmas.{ArePhisFirst, assigned_number, made_assigns}
 use Rattle.gim_making.proofs.Occurring.{local_occurs}
-use Rattle.gim_making.proofs.PartLemmas.{text_itself, same_text_is, parts_are, anonymous_has_parts, IsSmall, same_number, declared_some, declares, typed, some_is}
+use Rattle.gim_making.proofs.PartLemmas.{parts_are, anonymous_has_parts, IsSmall, same_number, declared_some, declares, typed, some_is}
 use Rattle.gim_making.proofs.PlaceLemmas.{AreSmall, PlaceFacts, one_each, in_names, local_here, place_facts, param_not_bare, row_at, one_row_at, row_place, place_row}
 use Rattle.gim_making.proofs.NameRowLemmas.{above, row_is_name, name_is_row}
 use Rattle.gim_making.proofs.UseLemmas.{assigned_at, assigned_to, assigned_from, used_is_assigned, used_from, default_is_used}
@@ -129,7 +130,7 @@ local_stands : (source : List ℕ) (tree : FunctionText) (names : List NameRow) 
 local_stands source tree names kept small first at name base bare =
     let f = made source tree names in
     let v = version_of_name source at in
-    or_not (is_assigned f v) (same_text base []) (is_used f v) (ap (λ b. same_text b []) bare ∙ text_itself []) (λ used.
+    or_not (is_assigned f v) (same_text base []) (is_used f v) (ap (λ b. same_text b []) bare ∙ same_text_itself []) (λ used.
     let r = used_from source tree names first v used in
     elim r.1 [
       | inl plain_one ↦ ap (is_assigned f) (sym r.2) ∙ used_is_assigned source tree names kept first r.0 plain_one
@@ -221,7 +222,7 @@ decl_has_row source tree names kept small are decl there h =
     let bare : f.base ≡ [] = bare_base text f.base f.digits h f.parts in
     let whole : anonymous (number_of f.digits) ≡ text = sym ((parts_are text f.base f.digits f.parts).0 ∙ ap (λ b. b ++ 95 ∷ f.digits) bare ∙ ap (λ d. 95 ∷ d) f.small) in
     any_from_has (λ (r : NameRow). same_text r.base [] && same_text (anonymous r.version) text) names row (row_is_name source tree names kept small are row (place_row source tree place f name))
-    (and_from (same_text f.base []) (same_text (anonymous (number_of f.digits)) text) (ap (λ b. same_text b []) bare ∙ text_itself []) (ap (λ t. same_text t text) whole ∙ text_itself text))
+    (and_from (same_text f.base []) (same_text (anonymous (number_of f.digits)) text) (ap (λ b. same_text b []) bare ∙ same_text_itself []) (ap (λ t. same_text t text) whole ∙ same_text_itself text))
 
 -- ---- assignments
 
@@ -255,7 +256,7 @@ distinct_numbers source (Assigned at ∷ ms) small h =
     let other = small a.0 (inr has) in
     let same : digits ≡ other.0 = same_number digits other.0 mine.2 other.2 (sym mine.3 ∙ eqb-true v y equal ∙ sym a.2 ∙ other.3) in
     let known : Has later other.0 = has_said (assigned_version source) ms (Assigned a.0) other.0 has other.1 in
-    false≢true (sym (ap not (any_from_has (same_text digits) later other.0 known (ap (same_text digits) (sym same) ∙ text_itself digits))) ∙ p.0)) in
+    false≢true (sym (ap not (any_from_has (same_text digits) later other.0 known (ap (same_text digits) (sym same) ∙ same_text_itself digits))) ∙ p.0)) in
     and_from (not (list_any (λ y. v == y) numbers)) (all_distinct ◌==◌ numbers) (ap not new) (distinct_numbers source ms (λ a there. small a (inr there)) p.1)
 
 assigns_small : (source : List ℕ) (tree : FunctionText) → KeepsNames source tree → AreSmall source tree → AssignsSmall source (occurrences_of tree)

@@ -14,7 +14,7 @@ use Rattle.gim_text.specs.declared.occurrence.Occurrence.{Occurrence}
 use Rattle.gim_text.specs.declared.occurrence.Occurrence.TheVariants.{Parameter, Local, Block, Jump, Assigned, Used, Default, Constant}
 use Rattle.gim_text.specs.Occurrences.{occurrence_of_parameter, occurrence_of_local, occurrence_of_operand, occurrences_of_argument, occurrences_of_item, operands_in_end, targets_in_end, occurrences_of_end, occurrences_of_block, occurrences_of, operand_at}
 use Rattle.gim_making.specs.Written.{operands_in}
-use Rattle.gim_making.proofs.Membership.{Has, has_left, has_right, has_map, has_flat, from_said}
+use Rattle.gim_text.proofs.Membership.{Has, has_left, has_right, has_map, has_flat, from_said}
 
 pub in_tree : (tree : FunctionText) (block : BlockText) (o : Occurrence) → Has tree.blocks block → Has (occurrences_of_block block) o → Has (occurrences_of tree) o
 in_tree tree block o there h =

@@ -43,33 +43,20 @@ use Rattle.gim_making.specs.Standing.{made}
 use Rattle.gim_making.specs.Trees.{no_word, operand_of, rhs_of, arg_of, phi_of, stmt_of, end_of, block_of}
 use Rattle.gim_making.specs.Types.{type_of_operand, form_fits, start_of, mismatch, place_of_arg, places_of_item, places_of_end, places_of_block, places_of_function}
 use Rattle.gim_making.specs.Written.{is_written, type_is_written, operands_in, IsWritten}
-use Rattle.gim_making.proofs.Membership.{Has, has_left, has_right, has_map, from_map, has_flat, from_flat, all_from_has, all_has}
+use Rattle.gim_text.proofs.Membership.{Has, has_left, has_right, has_map, from_map, has_flat, from_flat, all_from_has, all_has}
 use Rattle.gim_making.proofs.MadeLemmas.{ArePhisFirst, made_operands}
 use Rattle.gim_making.proofs.Occurring.{in_item, operand_occurs}
 use Rattle.gim_making.proofs.PartLemmas.{type_itself}
 use Rattle.gim_making.proofs.PlaceLemmas.{AreSmall, in_names, place_facts, row_at, place_row}
 use Rattle.gim_making.proofs.NameRowLemmas.{found_row}
+use Rattle.gim_shape.proofs.PlacesWithoutFault.{no_fault, none_at_each}
 
 -- ---- no fault
-
-no_fault_later : (o : Option GimpleFault) (places : List (Option GimpleFault)) → first_fault (o ∷ places) ≡ None → (o ≡ None) × (first_fault places ≡ None)
-no_fault_later None places e = (refl, e)
-no_fault_later (Some fault) places e = absurd cc
-
-no_fault : (places : List (Option GimpleFault)) → first_fault places ≡ None → (o : Option GimpleFault) → Has places o → o ≡ None
-no_fault [] e o h = absurd h
-no_fault (p ∷ places) e o (inl same) = sym same ∙ (no_fault_later p places e).0
-no_fault (p ∷ places) e o (inr h) = no_fault places (no_fault_later p places e).1 o h
-
-fault_free : (places : List (Option GimpleFault)) → ((o : Option GimpleFault) → Has places o → o ≡ None) → first_fault places ≡ None
-fault_free [] h = refl
-fault_free (None ∷ places) h = fault_free places (λ o there. h o (inr there))
-fault_free (Some fault ∷ places) h = absurd (let e = h (Some fault) (inl refl) in cc)
 
 -- each function of a file without a fault has none
 pub each_fits : (source : List ℕ) (functions : List FunctionText) → first_fault (flat_map (places_of_function source) functions) ≡ None → (tree : FunctionText) → Has functions tree → first_fault (places_of_function source tree) ≡ None
 each_fits source functions e tree there =
-    fault_free (places_of_function source tree) (λ o h. no_fault (flat_map (places_of_function source) functions) e o (has_flat (places_of_function source) functions tree o there h))
+    none_at_each (places_of_function source tree) (λ o h. no_fault (flat_map (places_of_function source) functions) e o (has_flat (places_of_function source) functions tree o there h))
 
 fits_by : (b : Bool) (at : Span) → mismatch b at ≡ None → b ≡ true
 fits_by true at e = refl

@@ -12,22 +12,17 @@ use Rattle.gim_ast.specs.Identifiers.{is_anonymous}
 use Rattle.lexing.specs.Numbers.{is_number_text, number_below}
 use Rattle.gim_ast.specs.WellFormed.{same_text, declares_as}
 use Rattle.lexing.proofs.NumberLemmas.{number_below_is}
+use Rattle.gim_text.specs.declared.limits.TheConstants.{NUMBER_LIMIT}
 use Rattle.gim_text.specs.declared.tree.DeclText.{DeclText}
 use Rattle.gim_text.specs.Texts.{name_parts, parts_from}
 use Rattle.pm_places.specs.Spans.{text_of}
 use Rattle.gim_text.proofs.NameLemmas.{parts_found}
 use Rattle.gim_names.specs.Kept.{ident_text, has_base}
-use Rattle.gim_making.specs.Declarations.{Declarations, declared_type, type_by_base, number_of, number_limit}
+use Rattle.gim_making.specs.Declarations.{Declarations, declared_type, type_by_base, number_of}
 use Rattle.gim_making.specs.Trees.{decl_of}
 
 pub some_is : {X : Type 0} (x y : X) → Some x ≡ Some y → x ≡ y
 some_is x y e = cc
-
-pub text_itself : (a : List ℕ) → same_text a a ≡ true
-text_itself a = (bytes_decides a a).1 refl
-
-pub same_text_is : (a b : List ℕ) → same_text a b ≡ true → a ≡ b
-same_text_is a b h = (bytes_decides a b).0 h
 
 -- ---- the text of a name
 
@@ -73,9 +68,9 @@ bare_is_anonymous text ds e =
 abbrev pub IsSmall : List ℕ → Type 0
 IsSmall ds = ds ≡ decimal (number_of ds)
 
-pub small_number : (ds : List ℕ) (n : ℕ) → number_below number_limit ds ≡ Some n → IsSmall ds
+pub small_number : (ds : List ℕ) (n : ℕ) → number_below NUMBER_LIMIT ds ≡ Some n → IsSmall ds
 small_number ds n e =
-    let p = number_below_is number_limit n ds (lit≤ tt) e in
+    let p = number_below_is NUMBER_LIMIT n ds (lit≤ tt) e in
     p.1 ∙ ap decimal (sym (ap (λ o. unwrap_or o 0) e))
 
 pub same_number : (a b : List ℕ) → IsSmall a → IsSmall b → number_of a ≡ number_of b → a ≡ b

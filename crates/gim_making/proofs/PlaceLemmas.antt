@@ -8,6 +8,7 @@ use Rattle.gim_ast.specs.declared.function.NameRow.{NameRow}
 use Rattle.gim_ast.specs.Identifiers.{is_anonymous}
 use Rattle.gim_ast.specs.WellFormed.{same_text}
 use Rattle.pm_places.specs.declared.span.Span.{Span}
+use Rattle.gim_text.proofs.SameTexts.{same_text_itself}
 use Rattle.gim_text.specs.declared.tree.FunctionText.{FunctionText}
 use Rattle.gim_text.specs.Texts.{name_parts}
 use Rattle.pm_places.specs.Spans.{text_of}
@@ -22,8 +23,8 @@ use Rattle.gim_names.proofs.Saying.{declares}
 use Rattle.gim_making.specs.declared.places.NamePlace.{NamePlace}
 use Rattle.gim_making.specs.Declarations.{declarations_of, type_by_parts, type_of_name, number_of}
 use Rattle.gim_making.specs.Names.{plain, default_at, name_place, names_in, rows_by_parts, rows_of_place, named_rows}
-use Rattle.gim_making.proofs.Membership.{Has, has_contains, has_flat, from_flat, has_said, from_said, all_has, any_from_has}
-use Rattle.gim_making.proofs.PartLemmas.{some_is, text_itself, parts_are, anonymous_has_parts, IsSmall, same_number}
+use Rattle.gim_text.proofs.Membership.{Has, has_contains, has_flat, from_flat, has_said, from_said, all_has, any_from_has}
+use Rattle.gim_making.proofs.PartLemmas.{some_is, parts_are, anonymous_has_parts, IsSmall, same_number}
 
 -- ---- pairs
 
@@ -83,7 +84,7 @@ local_facts source tree small at there anonymous name =
       digits = found.0;
       parts = found.1;
       small = small (plain at) name [] found.0 found.1;
-      declared = any_from_has (same_text text) (locals_of source tree) text local (text_itself text);
+      declared = any_from_has (same_text text) (locals_of source tree) text local (same_text_itself text);
       param = λ e. absurd (false≢true e);
       pair = has_said (version_base source) ms (Local at) (found.0, []) there (ap (λ o. turned (anonymous_parts o)) found.1);
       default = λ e. absurd (false≢true e);
@@ -169,8 +170,8 @@ marks_apart source tree kept p q f g digits bases initial plain_one =
     elim (g.written plain_one) [
       | inl bare ↦ param_not_bare (params_of source tree) f.base f.digits (f.param initial) (bases ∙ bare)
       | inr written ↦
-          let one : list_any (same_text g.digits) (filter_map (plain_version source) (occurrences_of tree)) ≡ true = any_from_has (same_text g.digits) (filter_map (plain_version source) (occurrences_of tree)) g.digits written (text_itself g.digits) in
-          let other : list_any (same_text g.digits) (filter_map (default_version source) (occurrences_of tree)) ≡ true = any_from_has (same_text g.digits) (filter_map (default_version source) (occurrences_of tree)) g.digits (subst (λ d. Has (filter_map (default_version source) (occurrences_of tree)) d) digits (f.default initial)) (text_itself g.digits) in
+          let one : list_any (same_text g.digits) (filter_map (plain_version source) (occurrences_of tree)) ≡ true = any_from_has (same_text g.digits) (filter_map (plain_version source) (occurrences_of tree)) g.digits written (same_text_itself g.digits) in
+          let other : list_any (same_text g.digits) (filter_map (default_version source) (occurrences_of tree)) ≡ true = any_from_has (same_text g.digits) (filter_map (default_version source) (occurrences_of tree)) g.digits (subst (λ d. Has (filter_map (default_version source) (occurrences_of tree)) d) digits (f.default initial)) (same_text_itself g.digits) in
           false≢true (sym (kept.marks g.digits one) ∙ other)
     ]
 

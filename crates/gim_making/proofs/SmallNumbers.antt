@@ -4,6 +4,7 @@ use Rattle.std.specs.Prelude.{IsSome}
 use Rattle.std.proofs.lemmas.Bool.{false≢true}
 use Rattle.lexing.specs.Numbers.{is_number_text, number_below}
 use Rattle.pm_places.specs.declared.span.Span.{Span}
+use Rattle.gim_text.specs.declared.limits.TheConstants.{NUMBER_LIMIT}
 use Rattle.gim_text.specs.declared.tree.BlockText.{BlockText}
 use Rattle.gim_text.specs.declared.tree.FunctionText.{FunctionText}
 use Rattle.gim_text.specs.declared.occurrence.Occurrence.{Occurrence}
@@ -14,10 +15,9 @@ use Rattle.gim_shape.specs.Blocks.{named_at}
 use Rattle.gim_limits.specs.Kept.{NumberFits, KeepsLimits}
 use Rattle.gim_limits.specs.Limits.{version_of, version_at, digits_at}
 use Rattle.gim_making.specs.declared.places.NamePlace.{NamePlace}
-use Rattle.gim_making.specs.Declarations.{number_limit}
 use Rattle.gim_making.specs.Names.{is_default, name_place}
 use Rattle.gim_making.specs.Written.{is_written, IsWritten}
-use Rattle.gim_making.proofs.Membership.{Has, each_has, from_said, all_has}
+use Rattle.gim_text.proofs.Membership.{Has, each_has, from_said, all_has}
 use Rattle.gim_making.proofs.Occurring.{number_occurs}
 use Rattle.gim_making.proofs.PartLemmas.{some_is, parts_are, IsSmall, small_number}
 use Rattle.gim_making.proofs.PlaceLemmas.{AreSmall}
@@ -43,12 +43,12 @@ named_digits source (Constant literal) place e = named_version source (Constant 
 
 -- ---- small numbers
 
-small_some : (digits : List ℕ) (o : Option ℕ) → number_below number_limit digits ≡ o → IsSome o → IsSmall digits
+small_some : (digits : List ℕ) (o : Option ℕ) → number_below NUMBER_LIMIT digits ≡ o → IsSome o → IsSmall digits
 small_some digits None is h = absurd (false≢true h)
 small_some digits (Some n) is h = small_number digits n is
 
 small_fits : (digits : List ℕ) → NumberFits (Some digits) → is_number_text digits ≡ true → IsSmall digits
-small_fits digits fits number = small_some digits (number_below number_limit digits) refl (fits number)
+small_fits digits fits number = small_some digits (number_below NUMBER_LIMIT digits) refl (fits number)
 
 fits_at : (source : List ℕ) (tree : FunctionText) → KeepsLimits source tree → (o : Occurrence) → Has (occurrences_of tree) o → NumberFits (digits_at source o)
 fits_at source tree limits o there = each_has (λ (x : Occurrence). NumberFits (digits_at source x)) (occurrences_of tree) limits.numbers o there

@@ -14,7 +14,7 @@ use Rattle.gim_making.specs.Judged.{IsSound}
 use Rattle.gim_making.specs.Standing.{StandsFor, made}
 use Rattle.gim_making.specs.Types.{places_of_function, types_fault}
 use Rattle.gim_making.specs.Written.{IsWritten}
-use Rattle.gim_making.proofs.Membership.{Has, each_has, has_contains}
+use Rattle.gim_text.proofs.Membership.{Has, each_has, has_contains}
 use Rattle.gim_making.proofs.MadeLemmas.{ArePhisFirst}
 use Rattle.gim_making.proofs.SmallNumbers.{are_small}
 use Rattle.gim_making.proofs.DeclarationsHold.{declarations, types}

@@ -7,6 +7,7 @@ use Rattle.gim_ast.specs.declared.function.NameRow.{NameRow}
 use Rattle.gim_ast.specs.Functions.{is_name, is_used}
 use Rattle.gim_ast.specs.WellFormed.{same_text, is_assigned}
 use Rattle.pm_places.specs.declared.span.Span.{Span}
+use Rattle.gim_text.proofs.SameTexts.{same_text_is}
 use Rattle.gim_text.specs.declared.tree.FunctionText.{FunctionText}
 use Rattle.gim_text.specs.declared.tree.OperandText.{OperandText}
 use Rattle.gim_text.specs.declared.tree.OperandText.TheVariants as operands
@@ -21,10 +22,10 @@ use Rattle.gim_making.specs.Declarations.{declarations_of, version_of_name, vers
 use Rattle.gim_making.specs.Standing.{made}
 use Rattle.gim_making.specs.Trees.{operand_of}
 use Rattle.gim_making.specs.Written.{operands_in}
-use Rattle.gim_making.proofs.Membership.{Has, has_map, from_map, has_said, from_said, all_has, any_from_has, any_has}
+use Rattle.gim_text.proofs.Membership.{Has, has_map, from_map, has_said, from_said, all_has, any_from_has, any_has}
 use Rattle.gim_making.proofs.Occurring.{operand_occurs}
 use Rattle.gim_making.proofs.MadeLemmas.{ArePhisFirst, made_operands, assigned_number, made_assigns}
-use Rattle.gim_making.proofs.PartLemmas.{some_is, same_text_is}
+use Rattle.gim_making.proofs.PartLemmas.{some_is}
 
 -- ---- assigned names
 

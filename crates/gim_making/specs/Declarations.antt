@@ -5,6 +5,7 @@ use Rattle.std.specs.Str.{bytes_eq}
 use Rattle.pm_wide.specs.Types.{Ty, bool_type}
 use Rattle.lexing.specs.Numbers.{number_below}
 use Rattle.pm_places.specs.declared.span.Span.{Span}
+use Rattle.gim_text.specs.declared.limits.TheConstants.{NUMBER_LIMIT}
 use Rattle.gim_text.specs.declared.tree.DeclText.{DeclText}
 use Rattle.gim_text.specs.declared.tree.FunctionText.{FunctionText}
 use Rattle.gim_text.specs.Texts.{name_parts}
@@ -37,13 +38,9 @@ type_by_parts known ident (Some parts) = unwrap_or (type_by_base known ident par
 abbrev pub type_of_name : Declarations → Span → Ty
 type_of_name known at = type_by_parts known (text_of known.source at) (name_parts (text_of known.source at))
 
--- one more than the greatest version and the greatest block number
-abbrev pub number_limit : ℕ
-number_limit = 1000000000
-
 -- The number that a text writes. One that isn't below the limit is taken as 0; the limits let none pass.
 abbrev pub number_of : List ℕ → ℕ
-number_of text = unwrap_or (number_below number_limit text) 0
+number_of text = unwrap_or (number_below NUMBER_LIMIT text) 0
 
 abbrev pub version_by_parts : Option (List ℕ × List ℕ) → ℕ
 version_by_parts None = 0

@@ -8,6 +8,7 @@ use Rattle.gim_ast.specs.Identifiers.{is_anonymous}
 use Rattle.lexing.specs.Numbers.{is_number_text}
 use Rattle.gim_ast.specs.WellFormed.{same_text, all_distinct}
 use Rattle.lexing.proofs.NumberLemmas.{number_text_is_digits}
+use Rattle.gim_text.proofs.SameTexts.{same_text_symm}
 use Rattle.gim_text.specs.declared.fault.GimpleFault.{GimpleFault}
 use Rattle.gim_text.specs.declared.fault.GimpleKind.{GimpleKind}
 use Rattle.gim_text.specs.declared.fault.GimpleKind.TheVariants.{Redefined}
@@ -28,7 +29,6 @@ use Rattle.gim_names.specs.Rules.{has_other_second, stands, differs, is_declared
 use Rattle.gim_names.specs.NamesFault.{first_kind, kind_of_occurrence, occurrence_fault, occurrences_fault, function_text, second_function, function_fault, names_fault}
 use Rattle.gim_names.specs.Tables.{have_one_each}
 use Rattle.gim_names.specs.Kept.{locals_of, assigned_of, has_base, has_param, is_declared, has_word, KeepsNames}
-use Rattle.gim_names.proofs.TableLemmas.{same_text_symm}
 use Rattle.gim_names.proofs.Saying.{declares}
 
 -- ---- no fault in a list

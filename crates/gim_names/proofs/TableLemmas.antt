@@ -10,9 +10,7 @@ use Rattle.std.proofs.lemmas.Bool.{and_parts, and_from, not-true, not_from_false
 use Rattle.gim_ast.specs.WellFormed.{same_text}
 use Rattle.gim_names.specs.Rules.{has_other_second, differs}
 use Rattle.gim_names.specs.Tables.{HasTexts, have_one_each}
-
-pub same_text_symm : (a b : List ℕ) → same_text a b ≡ same_text b a
-same_text_symm a b = nat_list_eq_equiv.symm a b
+use Rattle.gim_text.proofs.SameTexts.{same_text_symm}
 
 -- ---- one more text
 
@@ -69,28 +67,5 @@ pub one_more : (o : Option (List ℕ × List ℕ)) (pairs : List (List ℕ × Li
 one_more None pairs d one = one
 one_more (Some p) pairs d one = and_from (not (list_any (has_other_second p.0 p.1) pairs)) (have_one_each pairs) (not_from_false (list_any (has_other_second p.0 p.1) pairs) d) one
 
--- ---- places
-
--- the list from the place before on
-pub item_before : {X : Type 0} (xs : List X) (at : ℕ) (x : X) → 0 < at → at ≤ length xs → x ≡ get_or xs (at - 1) x → drop (at - 1) xs ≡ x ∷ drop at xs
-item_before xs zero x some within is = absurd (omega arith)
-item_before xs (suc at) x some within is =
-    let e : suc at - 1 ≡ at = omega arith in
-    let here : x ≡ get_or xs at x = subst (λ i. x ≡ get_or xs i x) e is in
-    rw e (drop-cons xs at x (omega arith) ∙ ap (λ y. y ∷ drop (suc at) xs) (sym here))
-
-pub drop_all : {X : Type 0} (xs : List X) → drop (length xs) xs ≡ []
-drop_all [] = refl
-drop_all (x ∷ xs) = drop_all xs
-
-pub drop_past : {X : Type 0} (xs : List X) (i : ℕ) → length xs ≤ i → drop i xs ≡ []
-drop_past [] zero le = refl
-drop_past [] (suc i) le = refl
-drop_past (x ∷ xs) zero le = absurd (omega arith)
-drop_past (x ∷ xs) (suc i) le = drop_past xs i (omega arith)
-
 pub none_has : {S : Type 0} (set : HashSet (Bor (List ℕ)) S) → set.keys ≡ [] → HasTexts set []
 none_has set e q = rw e refl
-
-pub item_is : {X : Type 0} (xs : List X) (i : ℕ) (x : X) → i < length xs → x ≡ get_or xs i x → drop i xs ≡ x ∷ drop (i + 1) xs
-item_is xs i x lt is = rw add-one (drop-cons xs i x lt) ∙ ap (λ y. y ∷ drop (i + 1) xs) (sym is)

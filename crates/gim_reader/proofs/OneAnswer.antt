@@ -18,7 +18,8 @@ use Rattle.gim_syntax.specs.Readers.{file_at}
 use Rattle.gim_syntax.specs.SyntaxFaults.{IsSyntaxFault, syntax_fault}
 use Rattle.gim_syntax.proofs.FileExact.{AnyToken, file_reads}
 use Rattle.gim_making.specs.Standing.{StandsFor}
-use Rattle.gim_reader.specs.Files.{file_limit, rules_fault, FromTokens, IsFile, IsTokensFault, of_syntax, of_rules, IsFileFault, of_size, of_lexing, of_tokens}
+use Rattle.gim_reader.specs.declared.TheConstants.{FILE_LIMIT}
+use Rattle.gim_reader.specs.Files.{rules_fault, FromTokens, IsFile, IsTokensFault, of_syntax, of_rules, IsFileFault, of_size, of_lexing, of_tokens}
 use Rattle.gim_reader.proofs.OneFile.{stand_once}
 
 -- ---- tokens
@@ -124,12 +125,12 @@ apart limit n above within = omega arith
 
 pub one_fault : (source : List ℕ) (a b : GimpleFault) → IsFileFault source a → IsFileFault source b → a ≡ b
 one_fault source a b (of_size long is) (of_size long_too is_too) = is ∙ sym is_too
-one_fault source a b (of_size long is) (of_lexing within lexing is_too) = absurd (apart file_limit (length source) long within)
-one_fault source a b (of_size long is) (of_tokens within tokens are h) = absurd (apart file_limit (length source) long within)
-one_fault source a b (of_lexing within lexing is) (of_size long is_too) = absurd (apart file_limit (length source) long within)
+one_fault source a b (of_size long is) (of_lexing within lexing is_too) = absurd (apart FILE_LIMIT (length source) long within)
+one_fault source a b (of_size long is) (of_tokens within tokens are h) = absurd (apart FILE_LIMIT (length source) long within)
+one_fault source a b (of_lexing within lexing is) (of_size long is_too) = absurd (apart FILE_LIMIT (length source) long within)
 one_fault source a b (of_lexing within lexing is) (of_lexing within_too lexing_too is_too) = is ∙ ap lex_fault (one_lex_fault source a.at b.at lexing lexing_too) ∙ sym is_too
 one_fault source a b (of_lexing within lexing is) (of_tokens within_too tokens are h) = absurd (no_tokens source a.at tokens lexing are)
-one_fault source a b (of_tokens within tokens are h) (of_size long is_too) = absurd (apart file_limit (length source) long within)
+one_fault source a b (of_tokens within tokens are h) (of_size long is_too) = absurd (apart FILE_LIMIT (length source) long within)
 one_fault source a b (of_tokens within tokens are h) (of_lexing within_too lexing is_too) = absurd (no_tokens source b.at tokens lexing are)
 one_fault source a b (of_tokens within tokens are h) (of_tokens within_too others are_too h_too) =
     one_tokens_fault source others a b (subst (λ ts. IsTokensFault source ts a) (same_tokens source tokens others are are_too) h) h_too

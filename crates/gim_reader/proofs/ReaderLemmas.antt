@@ -26,9 +26,10 @@ use Rattle.gim_making.specs.Judged.{IsSound}
 use Rattle.gim_making.proofs.Sound.{sound_files}
 use Rattle.gim_lexer.proofs.NumberTexts.{tokens_mean}
 use Rattle.gim_lexer.proofs.Cutting.{tokens_in_order, tokens_stand}
+use Rattle.gim_reader.specs.declared.TheConstants.{FILE_LIMIT}
 use Rattle.gim_reader.proofs.OneFile.{stand_once}
 use Rattle.gim_reader.proofs.WrittenLemmas.{few_tokens, all_sure, IsKnown, file_known, file_written}
-use Rattle.gim_reader.specs.Files.{file_limit, rules_fault, FromTokens, of_syntax, of_rules, of_lexing, of_tokens, IsRefusal, by_memory, by_fault, IsTokensRefusal, tokens_by_memory, tokens_by_fault}
+use Rattle.gim_reader.specs.Files.{rules_fault, FromTokens, of_syntax, of_rules, of_lexing, of_tokens, IsRefusal, by_memory, by_fault, IsTokensRefusal, tokens_by_memory, tokens_by_fault}
 
 -- ---- from tokens
 
@@ -80,12 +81,12 @@ second_none : (a b : Option GimpleFault) → or_fault a b ≡ None → b ≡ Non
 second_none None b e = e
 second_none (Some fault) b e = absurd cc
 
-pub known_trees : (source : List ℕ) (tokens : List Token) (trees : List FunctionText) → length source ≤ file_limit → AreTokens source tokens → SpellsFile trees tokens → AllByRecursion (IsKnown source) trees
+pub known_trees : (source : List ℕ) (tokens : List Token) (trees : List FunctionText) → length source ≤ FILE_LIMIT → AreTokens source tokens → SpellsFile trees tokens → AllByRecursion (IsKnown source) trees
 known_trees source tokens trees within are spelled =
     let few = few_tokens 0 (length source) tokens (tokens_in_order source tokens are) in
     file_known source tokens trees (all_sure source tokens (tokens_mean source tokens are) (tokens_stand source tokens are)) spelled (omega (arith, few, within))
 
-pub sound : (source : List ℕ) (tokens : List Token) (trees : List FunctionText) → length source ≤ file_limit → AreTokens source tokens → SpellsFile trees tokens → rules_fault source trees ≡ None → IsSound source trees
+pub sound : (source : List ℕ) (tokens : List Token) (trees : List FunctionText) → length source ≤ FILE_LIMIT → AreTokens source tokens → SpellsFile trees tokens → rules_fault source trees ≡ None → IsSound source trees
 unfolding rules_fault
 sound source tokens trees within are spelled kept =
     let names = names_fault source trees in
@@ -102,7 +103,7 @@ sound source tokens trees within are spelled kept =
       limits = second_none types limits after_shape;
     }
 
-pub well_formed : (source : List ℕ) (tokens seen : List Token) (result : Result (Vec Function Global) GimpleFault) → length source ≤ file_limit → AreTokens source tokens → seen ≡ tokens
+pub well_formed : (source : List ℕ) (tokens seen : List Token) (result : Result (Vec Function Global) GimpleFault) → length source ≤ FILE_LIMIT → AreTokens source tokens → seen ≡ tokens
     → IfOk result (λ fs. FromTokens source seen fs.items) → IfOk result (λ fs. AllByRecursion IsWellFormed fs.items)
 well_formed source tokens seen (Ok fs) within are same from =
     sound_files source from.trees fs.items (sound source seen from.trees within (subst (AreTokens source) (sym same) are) from.spelled from.kept) from.stand
@@ -110,19 +111,19 @@ well_formed source tokens seen (Err fault) within are same from = tt
 
 -- ---- from bytes
 
-pub lex_refused : (source : List ℕ) (fault : GimpleFault) → length source ≤ file_limit → IsCauseOf fault.kind source fault → IsRefusal source fault
+pub lex_refused : (source : List ℕ) (fault : GimpleFault) → length source ≤ FILE_LIMIT → IsCauseOf fault.kind source fault → IsRefusal source fault
 lex_refused source fault within h = by fault.kind refl h where
   by : (kind : GimpleKind) → fault.kind ≡ kind → IsCauseOf kind source fault → IsRefusal source fault
   by kinds.Memory e h = by_memory e
   by kinds.Lex e h = by_fault (of_lexing within h.1 h.0)
   by kind e h = absurd h
 
-pub tokens_refused : (source : List ℕ) (tokens : List Token) (fault : GimpleFault) → length source ≤ file_limit → AreTokens source tokens
+pub tokens_refused : (source : List ℕ) (tokens : List Token) (fault : GimpleFault) → length source ≤ FILE_LIMIT → AreTokens source tokens
     → IsTokensRefusal source tokens fault → IsRefusal source fault
 tokens_refused source tokens fault within are (tokens_by_memory e) = by_memory e
 tokens_refused source tokens fault within are (tokens_by_fault h) = by_fault (of_tokens within tokens are h)
 
-pub from_refused : (source : List ℕ) (tokens seen : List Token) (result : Result (Vec Function Global) GimpleFault) → length source ≤ file_limit → AreTokens source tokens → seen ≡ tokens
+pub from_refused : (source : List ℕ) (tokens seen : List Token) (result : Result (Vec Function Global) GimpleFault) → length source ≤ FILE_LIMIT → AreTokens source tokens → seen ≡ tokens
     → IfErr result (IsTokensRefusal source seen) → IfErr result (IsRefusal source)
 from_refused source tokens seen (Ok fs) within are same h = tt
 from_refused source tokens seen (Err fault) within are same h = tokens_refused source seen fault within (subst (AreTokens source) (sym same) are) h

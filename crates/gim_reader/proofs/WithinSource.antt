@@ -33,13 +33,13 @@ use Rattle.gim_lexer.proofs.NumberTexts.{tokens_mean}
 use Rattle.gim_lexer.proofs.Cutting.{tokens_stand}
 use Rattle.gim_syntax.specs.SyntaxFaults.{last_two_after, last_two, last_after, outside_after, outside_parentheses, depth_after, called, any_word, gimple_of, is_open, closed_options, is_in_block, or_place, unsupported, named_fault, syntax_fault}
 use Rattle.gim_names.specs.NamesFault.{kind_of_occurrence, occurrence_fault, occurrences_fault, second_function, function_fault, names_fault, function_text}
-use Rattle.gim_shape.specs.Blocks.{is_among, number_of, named_at, jumps_of_end, jumps_of, numbers_of, predecessors}
+use Rattle.gim_shape.specs.Blocks.{is_among, number_of, named_at, jumps_of, numbers_of, predecessors}
 use Rattle.gim_limits.specs.Limits.{is_too_large, large_faults, function_limit_faults, limits_fault}
 use Rattle.gim_shape.specs.Phis.{args_fit, item_faults}
 use Rattle.gim_shape.specs.Shape.{end_fault, jump_fault, faults_among, body_faults, function_faults, shape_fault}
 use Rattle.gim_making.specs.Declarations.{Declarations, declarations_of, type_of_name}
 use Rattle.gim_making.specs.Types.{start_of, place_of_arg, places_of_item, places_of_end, places_of_block, places_of_function, types_fault}
-use Rattle.gim_making.proofs.Membership.{Has, has_left, has_right, all_has, each_has}
+use Rattle.gim_text.proofs.Membership.{Has, has_left, has_right, all_has, each_has}
 use Rattle.gim_making.proofs.Occurring.{in_tree, target_occurs, argument_occurs}
 use Rattle.gim_reader.specs.Files.{rules_fault, of_syntax, of_rules, IsFileFault, of_size, of_lexing, of_tokens, IsRefusal, by_memory, by_fault}
 use Rattle.gim_reader.proofs.ReaderLemmas.{known_trees}
@@ -146,12 +146,6 @@ module _ (source : List ℕ) (n : ℕ) (tree : FunctionText) (placed : IsPlaced 
     items_in from false list (λ o there. known o (has_right (occurrences_of_item (Stmt name right)) (flat_map occurrences_of_item list) o there)),
   )
 
-  jump_is_target : (end : Option EndText) (at : Span) → Has (option_map_or jumps_of_end end []) at → Has (targets_in_end end) at
-  jump_is_target None at h = h
-  jump_is_target (Some (Goto to)) at h = h
-  jump_is_target (Some (If code a b yes_to no_to)) at h = h
-  jump_is_target (Some (Return a)) at h = h
-
   block_shape_in : (may : Bool) (block : BlockText) → Has tree.blocks block → AllByRecursion (FaultIn n) (faults_among source tree.blocks may block)
   block_shape_in may block there =
       let from = predecessors source tree.blocks (number_of source block) in
@@ -160,7 +154,7 @@ module _ (source : List ℕ) (n : ℕ) (tree : FunctionText) (placed : IsPlaced 
         all_both (FaultIn n) (item_faults source from may block.items) (map (jump_fault source there_is) (jumps_of block))
             (items_in from may block.items (λ o h. occurs_in o (in_tree tree block o there (has_left (Block block.number ∷ flat_map occurrences_of_item block.items) (occurrences_of_end block.end) o (inr h)))))
             (all_map (FaultIn n) (jump_fault source there_is) (jumps_of block) (λ at h.
-            unless_kept n (there_is (named_at source at)) kinds.MissingBlock at (occurs_in (Jump at) (target_occurs tree block at there (jump_is_target block.end at h))))),
+            unless_kept n (there_is (named_at source at)) kinds.MissingBlock at (occurs_in (Jump at) (target_occurs tree block at there h)))),
       )
 
   function_shape_in : AllByRecursion (FaultIn n) (function_faults source tree)

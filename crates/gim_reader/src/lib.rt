@@ -26,7 +26,7 @@ pub use gim_text::{GimpleFault, GimpleKind};
 use std::alloc::Global;
 
 /// The greatest length of a file.
-const FILE_LIMIT: usize = 16_777_216;
+pub const FILE_LIMIT: usize = 16_777_216;
 
 /// The functions that a file stands for, or its first fault.
 pub fn read(alloc: Global, source: &[u8]) -> Result<Vec<Function>, GimpleFault>

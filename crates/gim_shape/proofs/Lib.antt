@@ -1,6 +1,6 @@
-pub mod ListLemmas
 pub mod TableLemmas
 pub mod JudgingLemmas
 pub mod DistinctLemmas
 pub mod ShapeLemmas
 pub mod ShapeKept
+pub mod PlacesWithoutFault

@@ -7,12 +7,7 @@ use Rattle.std.proofs.lemmas.List.Folds.{list_any-append}
 use Rattle.gim_ast.specs.WellFormed.{same_text}
 use Rattle.pm_places.specs.declared.span.Span.{Span}
 use Rattle.gim_shape.specs.Blocks.{is_among}
-
-pub same_text_symm : (a b : List ℕ) → same_text a b ≡ same_text b a
-same_text_symm a b = nat_list_eq_equiv.symm a b
-
-pub same_is : (a b : List ℕ) → same_text a b ≡ true → a ≡ b
-same_is a b h = (bytes_decides a b).0 h
+use Rattle.gim_text.proofs.SameTexts.{same_text_symm}
 
 either_way : (a b c d : Bool) → a ≡ b → c ≡ d → cond a true c ≡ (d || (b || false))
 either_way true true c true e f = refl
@@ -23,21 +18,25 @@ either_way true false c d e f = absurd cc
 either_way false true c d e f = absurd cc
 
 -- a text is among some and one more
-pub among_more : (texts : List (List ℕ)) (text q : List ℕ) (old new : Bool) → new ≡ cond (same_text text q) true old → old ≡ is_among texts q
+pub among_more : (texts : List (List ℕ)) (text q : List ℕ) (old new : Bool) → new ≡ cond (same_text text q) true old
+    → old ≡ is_among texts q
     → new ≡ is_among (texts ++ text ∷ []) q
 among_more texts text q old new adds has =
-    adds ∙ either_way (same_text text q) (same_text q text) old (is_among texts q) (same_text_symm text q) has ∙ sym (list_any-append (same_text q) texts (text ∷ []))
+    adds ∙ either_way (same_text text q) (same_text q text) old (is_among texts q) (same_text_symm text q) has
+    ∙ sym (list_any-append (same_text q) texts (text ∷ []))
 
 abbrev pub places_in : {A : Type 0} → Option (Vec Span A) → List Span
 places_in found = option_map_or (λ v. v.items) found []
 
 -- what a table has for another text than the one that was taken out
-pub other_place : {A : Type 0} (same : Bool) (now past : Option (Vec Span A)) → now ≡ cond same None past → same ≡ false → places_in now ≡ places_in past
+pub other_place : {A : Type 0} (same : Bool) (now past : Option (Vec Span A)) → now ≡ cond same None past → same ≡ false
+    → places_in now ≡ places_in past
 other_place true now past is other = absurd cc
 other_place false now past is other = ap places_in is
 
 -- what a table has for one text, after a place was added for a text that is the same or another
-pub put_place : {A : Type 0} (same same' : Bool) (now past : Option (Vec Span A)) (after : Vec Span A) (taken before : List Span) (from : Span)
+pub put_place : {A : Type 0} (same same' : Bool) (now past : Option (Vec Span A)) (after : Vec Span A)
+    (taken before : List Span) (from : Span)
     → now ≡ cond same (Some after) past → (same ≡ false → places_in past ≡ before) → (same ≡ true → taken ≡ before) → same ≡ same'
     → after.items ≡ taken ++ from ∷ [] → places_in now ≡ before ++ (if same' then from ∷ [] else [])
 put_place true true now past after taken before from is other here e new = rw is (new ∙ ap (λ xs. xs ++ from ∷ []) (here refl))

@@ -43,7 +43,8 @@ HasPhisFirst (Stmt name right ∷ items) = HasNoPhi items
 abbrev pub Leads : List ℕ → List BlockText → Span → Type 0
 Leads source blocks at = IsTrue (is_among (numbers_of source blocks) (named_at source at))
 
--- a block of these blocks has an end, its jumps lead to blocks, its phis stand first, and each has one argument for each block that jumps here
+-- a block of these blocks has an end, its jumps lead to blocks, its phis stand first, and each has one argument for
+-- each block that jumps here
 pub record BlockHolds (source : List ℕ) (blocks : List BlockText) (block : BlockText) : Type 0 where
   pub end : IsSome block.end
   pub jumps : AllByRecursion (Leads source blocks) (jumps_of block)

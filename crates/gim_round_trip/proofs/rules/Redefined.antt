@@ -17,7 +17,7 @@ use Rattle.pm_places.specs.Spans.{text_of}
 use Rattle.gim_names.specs.Parts.{version_in, turned, anonymous_parts, declared_text, block_number, assigned_version, plain_version, default_version, version_base, base_default}
 use Rattle.gim_names.specs.Rules.{stands, is_declared_again, is_assigned_again, has_other_base, has_other_mark, has_other_default, is_repeated, is_marked_otherwise, is_contradicted, is_redefined}
 use Rattle.gim_making.specs.Names.{is_default}
-use Rattle.gim_making.proofs.Membership.{Has, from_said}
+use Rattle.gim_text.proofs.Membership.{Has, from_said}
 use Rattle.gim_making.proofs.NameRowLemmas.{one_of_version}
 use Rattle.gim_making.proofs.PartLemmas.{some_is, bare_is_anonymous}
 use Rattle.gim_round_trip.proofs.rules.KeptRules.{NeverBy, never_either, never_twice, never_both, never_differs}

@@ -16,6 +16,8 @@ use Rattle.gim_ast.specs.Functions.{targets_of}
 use Rattle.gim_ast.specs.WellFormed as ast
 use Rattle.gim_ast.specs.WellFormed.{IsWellFormed, same_text, all_distinct, is_empty, entry_has_no_phi, phi_blocks, phi_holds, numbers_of}
 use Rattle.pm_places.specs.declared.span.Span.{Span}
+use Rattle.gim_text.specs.Occurrences.{targets_in_end}
+use Rattle.gim_text.specs.declared.limits.TheConstants.{NUMBER_LIMIT}
 use Rattle.gim_text.specs.declared.tree.ArgText.{ArgText}
 use Rattle.gim_text.specs.declared.tree.BlockText.{BlockText}
 use Rattle.gim_text.specs.declared.tree.EndText.{EndText}
@@ -26,14 +28,14 @@ use Rattle.gim_text.specs.declared.tree.ItemText.TheVariants as items
 use Rattle.pm_places.specs.FirstFaults.{first_fault}
 use Rattle.pm_places.specs.Spans.{text_of}
 use Rattle.gim_shape.specs.Blocks as shape
-use Rattle.gim_shape.specs.Blocks.{number_of, named_at, jumps_of_end, jumps_of, jumps_to, predecessors}
+use Rattle.gim_shape.specs.Blocks.{number_of, named_at, jumps_of, jumps_to, predecessors}
 use Rattle.gim_shape.specs.Phis.{named_by_args, has_args, is_each_once, args_fit, item_faults}
 use Rattle.gim_shape.specs.Shape.{end_fault, jump_fault, faults_among, body_faults, function_faults, shape_fault}
-use Rattle.gim_making.proofs.Membership.{Has, has_flat, all_has, all_from_has}
+use Rattle.gim_text.proofs.Membership.{Has, has_flat, all_has, all_from_has}
 use Rattle.gim_round_trip.proofs.tree.SmallNumbers.{AreSmallNumbers, numbers_small, number_small, predecessors_small, targets_small, phi_blocks_small, among_decimals, distinct_decimals, all_among_decimals, images_are_decimals}
 use Rattle.gim_round_trip.proofs.tree.WellFormedParts.{of_blocks, phi_rules}
 use Rattle.gim_round_trip.proofs.tree.PairedLists.{beside_first}
-use Rattle.gim_round_trip.proofs.rules.PlacesWithoutFault.{none_joined, none_of_each}
+use Rattle.gim_shape.proofs.PlacesWithoutFault.{none_joined, none_of_each}
 use Rattle.gim_round_trip.proofs.tree.Writes.{WritesArg, WritesPhi, WritesStmt, WritesEnd, WritesBlock, WritesWell}
 
 -- ---- jumps
@@ -45,7 +47,7 @@ end_is_there source f at (Some tree) end h = refl
 
 -- the jumps of an end name its targets
 jumps_named : (source : List ℕ) (f : Function) (tree : Option EndText) (end : End) → WritesEnd source f tree end
-    → map (named_at source) (option_map_or jumps_of_end tree []) ≡ map decimal (targets_of end)
+    → map (named_at source) (targets_in_end tree) ≡ map decimal (targets_of end)
 jumps_named source f (Some (Goto to)) (ends.Goto n) h = rw h refl
 jumps_named source f (Some (If code a b to otherwise)) (ends.If op x y m n) h = rw (h.3, h.4) refl
 jumps_named source f (Some (Return a)) (ends.Return x) h = refl
@@ -106,7 +108,7 @@ abbrev number_if_jumps : ℕ → Block → List ℕ
 number_if_jumps n block = cond (list_any (λ to. to == n) (targets_of block.end)) (block.number ∷ []) []
 
 -- the numbers of the blocks that jump to a block
-predecessors_named : (source : List ℕ) (f : Function) (n : ℕ) → n < 1000000000 → (trees : List BlockText) (blocks : List Block)
+predecessors_named : (source : List ℕ) (f : Function) (n : ℕ) → n < NUMBER_LIMIT → (trees : List BlockText) (blocks : List Block)
     → ((block : Block) → Has blocks block → AreSmallNumbers (targets_of block.end)) → AllZip (WritesBlock source f) trees blocks
     → map (text_of source) (predecessors source trees (decimal n)) ≡ map decimal (flat_map (number_if_jumps n) blocks)
 predecessors_named source f n small [] [] targets written = refl

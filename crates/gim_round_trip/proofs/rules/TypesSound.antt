@@ -33,7 +33,7 @@ use Rattle.gim_making.specs.Declarations.{Declarations, declarations_of, type_of
 use Rattle.gim_making.specs.Standing.{StandsFor}
 use Rattle.gim_making.specs.Trees.{rhs_of}
 use Rattle.gim_making.specs.Types.{types_fault, type_of_operand, form_fits, start_of, mismatch, place_of_arg, places_of_item, places_of_end, places_of_block, places_of_function}
-use Rattle.gim_making.proofs.Membership.{Has, has_either, from_map, from_flat, all_has}
+use Rattle.gim_text.proofs.Membership.{Has, has_either, from_map, from_flat, all_has}
 use Rattle.gim_making.proofs.PartLemmas.{type_itself}
 use Rattle.gim_round_trip.proofs.tree.Rows.{name_facts}
 use Rattle.gim_round_trip.proofs.tree.WellFormedParts.{phi_operand, stmt_operand, end_operand, phi_row, stmt_row, end_fits_here}
@@ -42,17 +42,13 @@ use Rattle.gim_round_trip.proofs.tree.StandingFunctions.{rhs_is, function_is}
 use Rattle.gim_round_trip.proofs.tree.StandingNames.{names_stand}
 use Rattle.gim_round_trip.proofs.tree.PairedLists.{beside_first, paired_by}
 use Rattle.gim_round_trip.proofs.tree.Writes.{WritesWell, WritesOperand, WritesForm, WritesArg, WritesPhi, WritesStmt, WritesEnd, WritesBlock}
+use Rattle.gim_shape.proofs.PlacesWithoutFault.{none_at_each}
 
 -- ---- places without a fault
 
 -- no place has a fault
 abbrev AreKept : List (Option GimpleFault) → Type 0
 AreKept places = (place : Option GimpleFault) → Has places place → place ≡ None
-
-kept : (places : List (Option GimpleFault)) → AreKept places → first_fault places ≡ None
-kept [] h = refl
-kept (None ∷ places) h = kept places (λ place there. h place (inr there))
-kept (Some fault ∷ places) h = absurd (let e = h (Some fault) (inl refl) in cc)
 
 kept_one : (fits : Bool) (at : Span) → fits ≡ true → AreKept (mismatch fits at ∷ [])
 kept_one fits at h place (inl e) = sym e ∙ ap (λ b. mismatch b at) h
@@ -140,7 +136,7 @@ module _ (source : List ℕ) (tree : FunctionText) (f : Function) (w : WritesWel
 pub types_sound : (source : List ℕ) (trees : List FunctionText) (fs : List Function) → AllZip (WritesWell source) trees fs
     → types_fault source trees ≡ None
 unfolding types_fault
-types_sound source trees fs written = kept (flat_map (places_of_function source) trees) (λ place among.
+types_sound source trees fs written = none_at_each (flat_map (places_of_function source) trees) (λ place among.
     let tree = from_flat (places_of_function source) trees place among in
     let f = beside_first (WritesWell source) trees fs written tree.0 tree.1 in
     function_kept source tree.0 f.0 f.2 place tree.2)

@@ -14,7 +14,7 @@ use Rattle.gim_text.specs.declared.token.Mark.TheVariants as marks
 use Rattle.gim_text.specs.declared.tree.ItemText.{ItemText}
 use Rattle.gim_text.specs.declared.tree.EndText.{EndText}
 use Rattle.gim_text.specs.declared.tree.BlockText.{BlockText}
-use Rattle.gim_making.proofs.Membership.{Has}
+use Rattle.gim_text.proofs.Membership.{Has}
 use Rattle.gim_statements.specs.Grammar.{◌▸◌, SpellsItem, SpellsEndIfAny, SpellsNote, SpellsBlock}
 use Rattle.gim_round_trip.specs.ReadBack.{IsWithinLimits}
 use Rattle.gim_round_trip.proofs.tree.SmallNumbers.{number_small, targets_small}

@@ -8,7 +8,7 @@ use Rattle.gim_ast.specs.WellFormed.{IsWellFormed}
 use Rattle.gim_text.specs.declared.token.Token.{Token}
 use Rattle.gim_text.specs.declared.tree.FunctionText.{FunctionText}
 use Rattle.gim_lexer.specs.Cuts.{Cuts, AreTokens}
-use Rattle.gim_making.proofs.Membership.{Has, each_has}
+use Rattle.gim_text.proofs.Membership.{Has, each_has}
 use Rattle.gim_syntax.specs.Grammar.{SpellsFunction, SpellsFile}
 use Rattle.gim_round_trip.specs.ReadBack.{IsWithinLimits}
 use Rattle.gim_round_trip.proofs.text.RestOfSource.{Left, left_at_start}

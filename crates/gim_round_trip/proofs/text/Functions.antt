@@ -15,7 +15,7 @@ use Rattle.gim_text.specs.declared.token.Mark.TheVariants as marks
 use Rattle.gim_text.specs.declared.tree.DeclText.{DeclText}
 use Rattle.gim_text.specs.declared.tree.BlockText.{BlockText}
 use Rattle.gim_text.specs.declared.tree.FunctionText.{FunctionText}
-use Rattle.gim_making.proofs.Membership.{Has, has_left, has_right, has_map, all_has}
+use Rattle.gim_text.proofs.Membership.{Has, has_left, has_right, has_map, all_has}
 use Rattle.gim_words.specs.Parentheses.{none_left}
 use Rattle.gim_statements.specs.Grammar.{SpellsBlock}
 use Rattle.gim_syntax.specs.Grammar.{SpellsTyped, SpellsDecl, SpellsParams, HoldsSsa, SpellsHead, SpellsParamsBetween, SpellsBody, SpellsFunction}

@@ -15,12 +15,13 @@ use Rattle.gim_ast.specs.declared.function.NameRow.{NameRow}
 use Rattle.gim_printer.specs.Printing.{line, listed, assigned_text, type_of_name, operand_text, rhs_text, phi_argument_text, phi_line, stmt_line}
 use Rattle.gim_ast.specs.WellFormed.{IsWellFormed, is_type_of, is_empty, operand_holds, rhs_fits, base_holds, declares_as}
 use Rattle.gim_ast.specs.Identifiers.{anonymous}
+use Rattle.gim_text.specs.declared.limits.TheConstants.{NUMBER_LIMIT}
 use Rattle.gim_text.specs.declared.token.Keyword.TheVariants as keywords
 use Rattle.gim_text.specs.declared.token.Mark.TheVariants as marks
 use Rattle.gim_text.specs.declared.tree.ArgText.{ArgText}
 use Rattle.gim_text.specs.declared.tree.ItemText.{ItemText}
 use Rattle.gim_text.specs.declared.tree.ItemText.TheVariants as items
-use Rattle.gim_making.proofs.Membership.{Has, has_left, has_right, has_map, all_has}
+use Rattle.gim_text.proofs.Membership.{Has, has_left, has_right, has_map, all_has}
 use Rattle.gim_statements.specs.Grammar.{SpellsArg, SpellsArgs, SpellsItem}
 use Rattle.gim_round_trip.specs.ReadBack.{IsWithinLimits}
 use Rattle.gim_round_trip.proofs.tree.Rows.{name_facts, HasBase, bare, of_param, of_local, base_of_row, declared_as}
@@ -54,7 +55,7 @@ row_type f row well holds = by (base_of_row f row holds) where
 arg_whole : (number operand : List ℕ) → (codes "__BB" ++ number) ++ (codes ": " ++ operand) ≡ codes "__BB" ++ number ++ codes ": " ++ operand
 arg_whole number operand = simp append_assoc
 
-arg_prints : (source : List ℕ) (f : Function) (arg : ℕ × Operand) → IsWellFormed f → IsWithinLimits f → arg.0 < 1000000000 → operand_holds f arg.1 ≡ true
+arg_prints : (source : List ℕ) (f : Function) (arg : ℕ × Operand) → IsWellFormed f → IsWithinLimits f → arg.0 < NUMBER_LIMIT → operand_holds f arg.1 ≡ true
     → Prints source word_end SpellsArg (λ (tree : ArgText). WritesArg source f tree arg) (phi_argument_text f arg)
 arg_prints source f arg well limits small holds =
     let number : arg.0 < 2 ^ 64 = omega (arith, small) in

@@ -27,7 +27,7 @@ use Rattle.gim_text.specs.declared.tree.OperandText.TheVariants.{Name, Default, 
 use Rattle.gim_text.specs.declared.tree.RightText.{RightText}
 use Rattle.gim_text.specs.declared.tree.RightForm.{RightForm}
 use Rattle.gim_text.specs.declared.tree.RightForm.TheVariants.{Copy, Unary, Cast, Binary, Choice}
-use Rattle.gim_making.proofs.Membership.{Has}
+use Rattle.gim_text.proofs.Membership.{Has}
 use Rattle.gim_statements.specs.Words.{prefix_code, call_code}
 use Rattle.gim_statements.specs.Grammar.{◌▸◌, AMark, SpellsOperand, MayStandUnder, SpellsForm, SpellsRight}
 use Rattle.gim_round_trip.specs.ReadBack.{IsWithinLimits}

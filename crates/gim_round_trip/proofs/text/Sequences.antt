@@ -8,7 +8,7 @@ use Rattle.gim_text.specs.declared.token.Token.{Token}
 use Rattle.gim_text.specs.declared.token.Mark.TheVariants as marks
 use Rattle.lexing.specs.Cuts.{done}
 use Rattle.lexing.proofs.Cutting.{cuts_further}
-use Rattle.gim_making.proofs.Membership.{Has}
+use Rattle.gim_text.proofs.Membership.{Has}
 use Rattle.gim_statements.specs.Grammar.{◌▸◌, AMark}
 use Rattle.gim_round_trip.proofs.text.RestOfSource.{Left}
 use Rattle.gim_round_trip.proofs.text.Prints.{Close, word_end, blank_end, Ends, Prints, joined, seen, blanks_before}

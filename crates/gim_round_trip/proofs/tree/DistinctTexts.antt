@@ -4,8 +4,8 @@ use Rattle.std.specs.Prelude.{not}
 use Rattle.std.specs.List.{list_any, flat_map}
 use Rattle.std.proofs.lemmas.Bool.{and_parts, and_from, not-true}
 use Rattle.gim_ast.specs.WellFormed.{same_text, all_distinct}
-use Rattle.gim_making.proofs.Membership.{Has, has_left, has_right, has_flat, none_has, none_from_has}
-use Rattle.gim_making.proofs.PartLemmas.{text_itself}
+use Rattle.gim_text.proofs.SameTexts.{same_text_itself}
+use Rattle.gim_text.proofs.Membership.{Has, has_left, has_right, has_flat, none_has, none_from_has}
 
 pub front_distinct : (xs ys : List (List ℕ)) → all_distinct same_text (xs ++ ys) ≡ true → all_distinct same_text xs ≡ true
 front_distinct [] ys h = refl
@@ -23,7 +23,7 @@ rest_distinct (x ∷ xs) ys h = rest_distinct xs ys (and_parts (not (list_any (s
 pub not_again : (x : List ℕ) (xs : List (List ℕ)) → all_distinct same_text (x ∷ xs) ≡ true → Has xs x → ⊥
 not_again x xs h there =
     let p = and_parts (not (list_any (same_text x) xs)) (all_distinct same_text xs) h in
-    none_has (same_text x) xs (not-true (list_any (same_text x) xs) p.0) x there (text_itself x)
+    none_has (same_text x) xs (not-true (list_any (same_text x) xs) p.0) x there (same_text_itself x)
 
 pub apart : (xs ys : List (List ℕ)) → all_distinct same_text (xs ++ ys) ≡ true → (x : List ℕ) → Has xs x → Has ys x → ⊥
 apart [] ys h x there here = absurd there

@@ -14,7 +14,7 @@ use Rattle.gim_ast.specs.declared.function.End.{End}
 use Rattle.gim_ast.specs.Functions.{operands_of, operands_of_stmt, operands_of_end, assigned, targets_of}
 use Rattle.gim_ast.specs.WellFormed.{numbers_of, phi_blocks}
 use Rattle.gim_text.proofs.OccurrenceLemmas.{filter_of_map, filter_of_flat, each_says, none_says}
-use Rattle.gim_making.proofs.Membership.{Has, has_said, from_said}
+use Rattle.gim_text.proofs.Membership.{Has, has_said, from_said}
 
 pub data Part : Type 0 where
   parameter : Decl → Part

@@ -17,10 +17,10 @@ use Rattle.lexing.specs.Numbers.{is_number_text}
 use Rattle.gim_printer.specs.Printing.{assigned_text}
 use Rattle.gim_ast.specs.WellFormed.{IsWellFormed, same_text, ident_of, declares_as, base_holds}
 use Rattle.lexing.proofs.NumberLemmas.{decimal_is_number_text, number_text_is_digits, number_is_word}
+use Rattle.gim_text.proofs.SameTexts.{same_text_is}
 use Rattle.gim_text.specs.Texts.{name_parts}
 use Rattle.gim_text.proofs.NameLemmas.{no_parts_at}
-use Rattle.gim_making.proofs.Membership.{Has, has_map, has_left, has_right, all_has, none_from_has}
-use Rattle.gim_making.proofs.PartLemmas.{same_text_is}
+use Rattle.gim_text.proofs.Membership.{Has, has_map, has_left, has_right, all_has, none_from_has}
 use Rattle.gim_round_trip.specs.ReadBack.{IsWithinLimits}
 use Rattle.gim_round_trip.proofs.tree.Rows.{name_facts, HasBase, bare, of_param, of_local, base_of_row, declared_as}
 

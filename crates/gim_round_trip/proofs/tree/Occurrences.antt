@@ -35,7 +35,7 @@ use Rattle.gim_text.specs.Literals.{literal_word}
 use Rattle.gim_text.specs.Occurrences.{occurrence_of_parameter, occurrence_of_local, occurrence_of_operand, occurrences_of_argument, occurrences_of_right, occurrences_of_item, occurrences_of_end, occurrences_of_block, occurrences_of}
 use Rattle.gim_text.specs.Texts.{block_digits}
 use Rattle.pm_places.specs.Spans.{text_of}
-use Rattle.gim_making.proofs.Membership.{map-append, map_of_flat}
+use Rattle.gim_text.proofs.Membership.{map-append, map_of_flat}
 use Rattle.gim_round_trip.proofs.tree.FunctionParts.{Part, parameter, local, head, jump, assigns, reads, parts_of_arg, parts_of_phi, parts_of_stmt, parts_of_end, parts_of_block, parts_of}
 use Rattle.gim_round_trip.proofs.tree.PairedLists.{same_images, same_flat_images}
 use Rattle.gim_round_trip.proofs.tree.Writes.{Writes, WritesOperand, WritesForm, WritesArg, WritesPhi, WritesStmt, WritesEnd, WritesBlock, WritesDecl}

@@ -1,7 +1,7 @@
 -- Lists whose elements correspond place by place.
 use Rattle.std.proofs.Common.{◌≡◌, List, [], ◌∷◌, ◌++◌, map, refl, ap, subst, ◌∙◌, inl, inr}
 use Rattle.std.specs.List.{AllZip, flat_map}
-use Rattle.gim_making.proofs.Membership.{Has}
+use Rattle.gim_text.proofs.Membership.{Has}
 
 -- what stands beside an element of the first list, and of the second
 pub beside_first : {A B : Type 0} (R : A → B → Type 0) (xs : List A) (ys : List B) → AllZip R xs ys → (x : A) → Has xs x → (y : B) × Has ys y × R x y

@@ -16,12 +16,13 @@ use Rattle.gim_printer.specs.Printing.{name_text, assigned_text, type_of_name, b
 use Rattle.gim_ast.specs.Readable.{is_initial}
 use Rattle.gim_ast.specs.WellFormed.{IsWellFormed, same_text, all_distinct, rises, declares_as, base_holds, row_stands, initial_bases, is_assigned}
 use Rattle.lexing.proofs.NumberLemmas.{decimal_is_number_text}
+use Rattle.gim_text.proofs.SameTexts.{same_text_is}
+use Rattle.gim_text.specs.declared.limits.TheConstants.{NUMBER_LIMIT}
 use Rattle.gim_text.specs.Texts.{name_parts}
 use Rattle.gim_text.proofs.NameLemmas.{parts_found}
 use Rattle.gim_making.specs.Names.{version_of}
-use Rattle.gim_making.proofs.Membership.{Has, all_has, any_has, any_from_has, has_map}
+use Rattle.gim_text.proofs.Membership.{Has, all_has, any_has, any_from_has, has_map}
 use Rattle.gim_making.proofs.NameRowLemmas.{first_of_here, first_of_in, one_of_version}
-use Rattle.gim_making.proofs.PartLemmas.{same_text_is}
 use Rattle.gim_making.proofs.RowLemmas.{first_of_has}
 use Rattle.gim_round_trip.specs.ReadBack.{IsWithinLimits}
 
@@ -49,14 +50,14 @@ unfolding row_of
 row_found f well row there = first_of_here f.names row there (λ other has same. one_of_version f.names
     (of_names f well).rising other row has there same)
 
-pub version_small : (f : Function) → IsWithinLimits f → (row : NameRow) → Has f.names row → row.version < 1000000000
-version_small f limits row there = ltb-true row.version 1000000000
-    (all_has (λ v. nat_lt v 1000000000) (map version_of f.names) limits.versions row.version (has_map version_of f.names row there))
+pub version_small : (f : Function) → IsWithinLimits f → (row : NameRow) → Has f.names row → row.version < NUMBER_LIMIT
+version_small f limits row there = ltb-true row.version NUMBER_LIMIT
+    (all_has (λ v. nat_lt v NUMBER_LIMIT) (map version_of f.names) limits.versions row.version (has_map version_of f.names row there))
 
 -- what is known of the name whose row this is
 pub record NameFacts (f : Function) (x : ℕ) (row : NameRow) : Type 0 where
   pub is_version : row.version ≡ x
-  pub small : x < 1000000000
+  pub small : x < NUMBER_LIMIT
   pub in_names : Has f.names row
   pub text : assigned_text f x ≡ row.base ++ 95 ∷ decimal x
   pub parts : name_parts (assigned_text f x) ≡ Some (row.base, decimal x)
@@ -74,7 +75,7 @@ unfolding row_of base_of is_initial type_of_name
 name_facts f x row well limits found =
     let has : Has f.names row = first_of_in x f.names row found in
     let version : row.version ≡ x = first_of_has x f.names row found in
-    let small : x < 1000000000 = omega (arith, version_small f limits row has, version) in
+    let small : x < NUMBER_LIMIT = omega (arith, version_small f limits row has, version) in
     let text : assigned_text f x ≡ row.base ++ 95 ∷ decimal x = ap (λ o. name_text (option_map_or (λ (r : NameRow). r.base) o []) x) found
     ∙ underscored row.base (decimal x) in
     let both = and_parts (base_holds f row) (row_stands f row) (all_has (λ (r : NameRow). base_holds f r && row_stands f r) f.names

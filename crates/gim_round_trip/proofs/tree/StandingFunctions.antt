@@ -17,6 +17,7 @@ use Rattle.gim_ast.specs.declared.function.End.TheVariants as ends
 use Rattle.gim_ast.specs.Functions.{operands_of, operands_of_rhs, operands_of_end, targets_of}
 use Rattle.gim_printer.specs.Printing.{type_of_name}
 use Rattle.pm_places.specs.declared.span.Span.{Span}
+use Rattle.gim_text.specs.declared.limits.TheConstants.{NUMBER_LIMIT}
 use Rattle.gim_text.specs.declared.tree.ArgText.{ArgText}
 use Rattle.gim_text.specs.declared.tree.BlockText.{BlockText}
 use Rattle.gim_text.specs.declared.tree.DeclText.{DeclText}
@@ -31,14 +32,14 @@ use Rattle.pm_places.specs.Spans.{text_of}
 use Rattle.gim_making.specs.Declarations.{Declarations, declarations_of, number_of}
 use Rattle.gim_making.specs.Standing.{made}
 use Rattle.gim_making.specs.Trees.{rhs_of, block_number, arg_of, phi_of, stmt_of, end_of, block_of, decl_of}
-use Rattle.gim_making.proofs.Membership.{Has, has_map}
+use Rattle.gim_text.proofs.Membership.{Has, has_map}
 use Rattle.gim_round_trip.proofs.tree.SmallNumbers.{AreSmallNumbers, number_of_decimal, number_small, targets_small, phi_blocks_small}
 use Rattle.gim_round_trip.proofs.tree.WellFormedParts.{phi_operand, stmt_operand, end_operand, phi_row, stmt_row}
 use Rattle.gim_round_trip.proofs.tree.KnownNames.{known_name, operand_is}
 use Rattle.gim_round_trip.proofs.tree.PairedLists.{map_is, flat_map_is, nothing_is}
 use Rattle.gim_round_trip.proofs.tree.Writes.{WritesWell, WritesForm, WritesArg, WritesPhi, WritesStmt, WritesEnd, WritesBlock, WritesDecl, NamesBlock}
 
-block_number_is : (source : List ℕ) (at : Span) (n : ℕ) → NamesBlock source at n → n < 1000000000 → block_number source at ≡ n
+block_number_is : (source : List ℕ) (at : Span) (n : ℕ) → NamesBlock source at n → n < NUMBER_LIMIT → block_number source at ≡ n
 block_number_is source at n names small = ap number_of names ∙ number_of_decimal n small
 
 decl_is : (source : List ℕ) (text : DeclText) (decl : Decl) → WritesDecl source text decl → decl_of source text ≡ decl

@@ -15,7 +15,7 @@ use Rattle.gim_ast.specs.declared.function.Stmt.{Stmt}
 use Rattle.gim_ast.specs.declared.function.NameRow.{NameRow}
 use Rattle.gim_ast.specs.Functions.{operands_of, operands_of_block, operands_of_phi, operands_of_stmt, operands_of_end, assigned, assigned_in, phi_name, stmt_name, targets_of, row_of}
 use Rattle.gim_ast.specs.WellFormed.{IsWellFormed, all_distinct, operand_holds, block_fits, phi_fits, stmt_fits, rhs_fits, end_fits, numbers_of, is_among, entry_has_no_phi, is_empty, predecessors, phi_blocks, phi_holds, type_of}
-use Rattle.gim_making.proofs.Membership.{Has, all_has, has_left, has_right, has_either, has_map, from_map, has_flat, from_flat}
+use Rattle.gim_text.proofs.Membership.{Has, all_has, has_left, has_right, has_either, has_map, from_map, has_flat, from_flat}
 
 -- ---- blocks
 

@@ -17,6 +17,8 @@ use Rattle.gim_ast.specs.Readable.{is_initial}
 use Rattle.gim_ast.specs.WellFormed.{same_text, ident_of, is_assigned, base_holds}
 use Rattle.lexing.proofs.NumberLemmas.{decimal_is_number_text}
 use Rattle.pm_places.specs.declared.span.Span.{Span}
+use Rattle.gim_text.proofs.SameTexts.{same_text_is}
+use Rattle.gim_text.specs.declared.limits.TheConstants.{NUMBER_LIMIT}
 use Rattle.gim_text.specs.declared.occurrence.Occurrence.{Occurrence}
 use Rattle.gim_text.specs.declared.occurrence.Occurrence.TheVariants.{Parameter, Local, Block, Jump, Assigned, Used, Default, Constant}
 use Rattle.gim_text.specs.declared.tree.FunctionText.{FunctionText}
@@ -25,8 +27,7 @@ use Rattle.gim_text.specs.Occurrences.{occurrences_of, name_at}
 use Rattle.gim_text.specs.Texts.{name_parts}
 use Rattle.pm_places.specs.Spans.{text_of}
 use Rattle.gim_making.specs.Names.{is_default}
-use Rattle.gim_making.proofs.Membership.{Has, has_map, from_map, any_has, any_from_has}
-use Rattle.gim_making.proofs.PartLemmas.{same_text_is}
+use Rattle.gim_text.proofs.Membership.{Has, has_map, from_map, any_has, any_from_has}
 use Rattle.gim_round_trip.proofs.tree.FunctionParts.{Part, parameter, local, head, jump, assigns, reads, parts_of, PartIs, part_is, local_there, name_there, operand_there}
 use Rattle.gim_round_trip.proofs.tree.Occurrences.{a_local, an_assigned, an_operand, a_name, told, said, occurrences_say}
 use Rattle.gim_round_trip.proofs.tree.Rows.{name_facts, row_found, assigned_is_not_initial, used_is_assigned, local_row, bare_row, declared_as}
@@ -37,7 +38,7 @@ use Rattle.gim_round_trip.proofs.tree.Writes.{WritesWell, NamesBlock}
 -- the name of this row stands at the place
 pub record IsNameAt (source : List ℕ) (f : Function) (at : Span) (row : NameRow) : Type 0 where
   pub in_names : Has f.names row
-  pub small : row.version < 1000000000
+  pub small : row.version < NUMBER_LIMIT
   pub text : text_of source at ≡ row.base ++ 95 ∷ decimal row.version
   pub named : text_of source at ≡ assigned_text f row.version
   pub parts : name_parts (text_of source at) ≡ Some (row.base, decimal row.version)
@@ -47,8 +48,8 @@ pub record IsNameAt (source : List ℕ) (f : Function) (at : Span) (row : NameRo
 abbrev pub OccurrenceIs : List ℕ → Function → Occurrence → Type 0
 OccurrenceIs source f (Parameter at) = Has (map ident_of f.params) (text_of source at)
 OccurrenceIs source f (Local at) = (decl : Decl) × Has f.decls decl × (text_of source at ≡ decl.ident)
-OccurrenceIs source f (Block at) = (n : ℕ) × (n < 1000000000) × (text_of source at ≡ decimal n)
-OccurrenceIs source f (Jump at) = (n : ℕ) × (n < 1000000000) × NamesBlock source at n
+OccurrenceIs source f (Block at) = (n : ℕ) × (n < NUMBER_LIMIT) × (text_of source at ≡ decimal n)
+OccurrenceIs source f (Jump at) = (n : ℕ) × (n < NUMBER_LIMIT) × NamesBlock source at n
 OccurrenceIs source f (Assigned at) = (row : NameRow) × IsNameAt source f at row × (row.initial ≡ false)
 OccurrenceIs source f (Used at) = (row : NameRow) × IsNameAt source f at row × (row.initial ≡ false) × (is_assigned f row.version ≡ true)
 OccurrenceIs source f (Default at) = (row : NameRow) × IsNameAt source f at row × (row.initial ≡ true)
@@ -90,7 +91,7 @@ module _ (source : List ℕ) (tree : FunctionText) (f : Function) (w : WritesWel
       let version : x ≡ row.version = sym facts.is_version in
       record {
         in_names = facts.in_names;
-        small = subst (λ v. v < 1000000000) version facts.small;
+        small = subst (λ v. v < NUMBER_LIMIT) version facts.small;
         text = text ∙ facts.text ∙ ap (λ v. row.base ++ 95 ∷ decimal v) version;
         named = text ∙ ap (assigned_text f) version;
         parts = ap name_parts text ∙ facts.parts ∙ ap (λ v. Some (row.base, decimal v)) version;

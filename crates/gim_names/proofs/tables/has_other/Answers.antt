@@ -1,8 +1,9 @@
 use Rattle.std.proofs.Common.{◌∙◌, List, ℕ, option_map, sym, ap}
 use Rattle.std.specs.Prelude.{not}
 use Rattle.std.specs.Borrow.{Bor}
-use Rattle.gim_names.proofs.TableLemmas.{same_text_symm, other_some, other_none}
+use Rattle.gim_names.proofs.TableLemmas.{other_some, other_none}
 use Rattle.gim_names.proofs.tables.has_other.Goals as goal
+use Rattle.gim_text.proofs.SameTexts.{same_text_symm}
 
 pub returns-in-Some : goal.returns-in-Some
 returns-in-Some c = λ pairs h one.

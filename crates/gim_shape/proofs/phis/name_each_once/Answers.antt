@@ -9,5 +9,6 @@ pub returns : goal.returns
 returns c =
     let source = c.args.source.now in
     let named = rw c.in-Some.is at c.in_ok-named.ensures in
-    c.are_the_same.ensures ∙ each_once_known (map (text_of source) c.args.from.now) (named_by_args source c.args.args.now) (has_text c.in_ok-numbers.numbers) (has_text c.in-Some.named)
+    c.are_the_same.ensures ∙ each_once_known (map (text_of source) c.args.from.now)
+    (named_by_args source c.args.args.now) (has_text c.in_ok-numbers.numbers) (has_text c.in-Some.named)
     named.0 c.in_ok-numbers.ensures named.1

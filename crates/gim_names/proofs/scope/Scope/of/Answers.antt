@@ -1,7 +1,7 @@
 use Rattle.std.proofs.Common.{◌≡◌, ℕ, List, drop, subst, sym, arith}
+use Rattle.gim_text.proofs.FrontsAndRests.{item_before, drop_all}
 use Rattle.gim_text.specs.declared.occurrence.Occurrence.{Occurrence}
 use Rattle.gim_names.specs.Tables.{Describes}
-use Rattle.gim_names.proofs.TableLemmas.{item_before, drop_all}
 use Rattle.gim_names.proofs.scope.Scope.of.Goals as goal
 
 pub loop-at-init : goal.loop-at-init

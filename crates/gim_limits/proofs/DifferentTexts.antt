@@ -7,7 +7,7 @@ use Rattle.gim_ast.specs.WellFormed.{same_text, all_distinct}
 use Rattle.gim_shape.specs.Blocks.{is_among}
 use Rattle.gim_limits.specs.Limits.{different}
 use Rattle.gim_limits.proofs.DifferentLemmas.{chosen_are_few}
-use Rattle.gim_making.proofs.Membership.{Has, all_has, all_from_has, any_from_has, none_from_has}
+use Rattle.gim_text.proofs.Membership.{Has, all_has, all_from_has, any_from_has, none_from_has}
 
 -- the different ones
 abbrev firsts : List (List ℕ) → List (List ℕ)
@@ -25,7 +25,8 @@ from_firsts (t ∷ ts) x h = by (is_among ts t) h (from_firsts ts x) where
 firsts_distinct : (ts : List (List ℕ)) → all_distinct same_text (firsts ts) ≡ true
 firsts_distinct [] = refl
 firsts_distinct (t ∷ ts) = by (is_among ts t) refl (firsts_distinct ts) where
-  by : (b : Bool) → is_among ts t ≡ b → all_distinct same_text (firsts ts) ≡ true → all_distinct same_text (cond b (firsts ts) (t ∷ firsts ts)) ≡ true
+  by : (b : Bool) → is_among ts t ≡ b → all_distinct same_text (firsts ts) ≡ true
+      → all_distinct same_text (cond b (firsts ts) (t ∷ firsts ts)) ≡ true
   by true e later = later
   by false e later =
       and_from (not (list_any (same_text t) (firsts ts))) (all_distinct same_text (firsts ts))
@@ -35,7 +36,8 @@ firsts_distinct (t ∷ ts) = by (is_among ts t) refl (firsts_distinct ts) where
 firsts_count : (ts : List (List ℕ)) → length (firsts ts) ≡ different ts
 firsts_count [] = refl
 firsts_count (t ∷ ts) = by (is_among ts t) (firsts_count ts) where
-  by : (b : Bool) → length (firsts ts) ≡ different ts → length (cond b (firsts ts) (t ∷ firsts ts)) ≡ cond b (different ts) (suc (different ts))
+  by : (b : Bool) → length (firsts ts) ≡ different ts
+      → length (cond b (firsts ts) (t ∷ firsts ts)) ≡ cond b (different ts) (suc (different ts))
   by true e = e
   by false e = ap suc e
 

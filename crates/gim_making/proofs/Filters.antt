@@ -1,7 +1,7 @@
 -- Filters that give the same of two lists.
 use Rattle.std.proofs.Common.{◌≡◌, Option, Some, None, List, [], ◌∷◌, map, option_map, refl, ap, ◌∙◌, inl, inr}
 use Rattle.std.specs.List.{filter_map, cons_option}
-use Rattle.gim_making.proofs.Membership.{Has}
+use Rattle.gim_text.proofs.Membership.{Has}
 
 pub kept_of_images : {X Y Z : Type 0} (picks : X → Option Z) (others : Y → Option Z) (v : X → Y) → ((x : X) → picks x ≡ others (v x)) → (xs : List X)
     → filter_map picks xs ≡ filter_map others (map v xs)

@@ -1,5 +1,6 @@
 -- What stands in a list.
-use Rattle.std.proofs.Common.{◌≡◌, ◌⊎◌, suc, Bool, true, false, List, [], ◌∷◌, ◌++◌, map, Contains, Option, Some, None, refl, sym, ap, subst, ◌∙◌, inl, inr, arith}
+use Rattle.std.proofs.Common.{◌≡◌, ◌⊎◌, suc, Bool, true, false, List, [], ◌∷◌, ◌++◌, map, Contains}
+use Rattle.std.proofs.Common.{Option, Some, None, refl, sym, ap, subst, ◌∙◌, inl, inr, arith}
 use Rattle.std.specs.Prelude.{◌||◌}
 use Rattle.std.specs.List.{flat_map, filter_map, cons_option, list_any, list_all, AllByRecursion}
 use Rattle.std.proofs.lemmas.Bool.{and_parts, and_from, false≢true}
@@ -48,12 +49,18 @@ has_flat f [] x y h there = absurd h
 has_flat f (z ∷ xs) x y (inl e) there = has_left (f z) (flat_map f xs) y (subst (λ w. Has (f w) y) (sym e) there)
 has_flat f (z ∷ xs) x y (inr h) there = has_right (f z) (flat_map f xs) y (has_flat f xs x y h there)
 
-flat_later : {X Y : Type 0} (f : X → List Y) (x : X) (xs : List X) (y : Y) → ((z : X) × Has xs z × Has (f z) y) → (z : X) × Has (x ∷ xs) z × Has (f z) y
+flat_later : {X Y : Type 0} (f : X → List Y) (x : X) (xs : List X) (y : Y) → ((z : X) × Has xs z × Has (f z) y)
+    → (z : X) × Has (x ∷ xs) z × Has (f z) y
 flat_later f x xs y r = (r.0, inr r.1, r.2)
 
 pub from_flat : {X Y : Type 0} (f : X → List Y) (xs : List X) (y : Y) → Has (flat_map f xs) y → (x : X) × Has xs x × Has (f x) y
 from_flat f [] y h = absurd h
-from_flat f (x ∷ xs) y h = elim (has_either (f x) (flat_map f xs) y h) [ inl l ↦ (x, inl refl, l) | inr r ↦ flat_later f x xs y (from_flat f xs y r) ]
+from_flat f (x ∷ xs) y h =
+    elim (has_either (f x) (flat_map f xs) y h) [
+      | inl l ↦ (x, inl refl, l)
+      | inr r ↦ flat_later f x xs y
+          (from_flat f xs y r)
+    ]
 
 -- ---- in what a filter keeps
 
@@ -63,15 +70,19 @@ with_later (Some y) xs x h = inr h
 
 pub has_said : {M X : Type 0} (says : M → Option X) (ms : List M) (m : M) (x : X) → Has ms m → says m ≡ Some x → Has (filter_map says ms) x
 has_said says [] m x h e = absurd h
-has_said says (n ∷ ms) m x (inl same) e = let here : says n ≡ Some x = ap says same ∙ e in subst (λ o. Has (cons_option o (filter_map says ms)) x) (sym here) (inl refl)
+has_said says (n ∷ ms) m x (inl same) e = let here : says n ≡ Some x = ap says same ∙ e in
+    subst (λ o. Has (cons_option o (filter_map says ms)) x) (sym here) (inl refl)
 has_said says (n ∷ ms) m x (inr h) e = with_later (says n) (filter_map says ms) x (has_said says ms m x h e)
 
-said_by : {M X : Type 0} (says : M → Option X) (n : M) (ms : List M) (x : X) (o : Option X) → says n ≡ o → (Has (filter_map says ms) x → (m : M) × Has ms m × (says m ≡ Some x)) → Has (cons_option o (filter_map says ms)) x → (m : M) × Has (n ∷ ms) m × (says m ≡ Some x)
+said_by : {M X : Type 0} (says : M → Option X) (n : M) (ms : List M) (x : X) (o : Option X) → says n ≡ o
+    → (Has (filter_map says ms) x → (m : M) × Has ms m × (says m ≡ Some x)) → Has (cons_option o (filter_map says ms)) x
+    → (m : M) × Has (n ∷ ms) m × (says m ≡ Some x)
 said_by says n ms x None is later h = let r = later h in (r.0, inr r.1, r.2)
 said_by says n ms x (Some y) is later (inl e) = (n, inl refl, is ∙ ap Some e)
 said_by says n ms x (Some y) is later (inr h) = let r = later h in (r.0, inr r.1, r.2)
 
-pub from_said : {M X : Type 0} (says : M → Option X) (ms : List M) (x : X) → Has (filter_map says ms) x → (m : M) × Has ms m × (says m ≡ Some x)
+pub from_said : {M X : Type 0} (says : M → Option X) (ms : List M) (x : X) → Has (filter_map says ms) x → (m : M)
+    × Has ms m × (says m ≡ Some x)
 from_said says [] x h = absurd h
 from_said says (n ∷ ms) x h = said_by says n ms x (says n) refl (from_said says ms x) h
 
@@ -104,7 +115,9 @@ any_from_has p [] x h t = absurd h
 any_from_has p (y ∷ xs) x (inl e) t = any_by (p y) (list_any p xs) (subst (λ z. p z ≡ true) (sym e) t)
 any_from_has p (y ∷ xs) x (inr h) t = any_later (p y) (list_any p xs) (any_from_has p xs x h t)
 
-any_here : {X : Type 0} (p : X → Bool) (y : X) (xs : List X) (b : Bool) → p y ≡ b → (list_any p xs ≡ true → (x : X) × Has xs x × (p x ≡ true)) → (b || list_any p xs) ≡ true → (x : X) × Has (y ∷ xs) x × (p x ≡ true)
+any_here : {X : Type 0} (p : X → Bool) (y : X) (xs : List X) (b : Bool) → p y ≡ b
+    → (list_any p xs ≡ true → (x : X) × Has xs x × (p x ≡ true)) → (b || list_any p xs) ≡ true → (x : X)
+    × Has (y ∷ xs) x × (p x ≡ true)
 any_here p y xs true is later any = (y, inl refl, is)
 any_here p y xs false is later any = let r = later any in (r.0, inr r.1, r.2)
 
@@ -125,22 +138,28 @@ none_from_has p xs h = false_from (list_any p xs) (λ any. let r = any_has p xs 
 
 -- ---- images of images
 
-pub flat_of_map : {X M A : Type 0} (P : M → List A) (v : X → M) (h : X → List A) (xs : List X) → ((x : X) → P (v x) ≡ h x) → flat_map P (map v xs) ≡ flat_map h xs
+pub flat_of_map : {X M A : Type 0} (P : M → List A) (v : X → M) (h : X → List A) (xs : List X)
+    → ((x : X) → P (v x) ≡ h x) → flat_map P (map v xs) ≡ flat_map h xs
 flat_of_map P v h [] each = refl
 flat_of_map P v h (x ∷ xs) each = ap (λ l. l ++ flat_map P (map v xs)) (each x) ∙ ap (λ l. h x ++ l) (flat_of_map P v h xs each)
 
-pub flat_of_flat : {X M A : Type 0} (P : M → List A) (v : X → List M) (h : X → List A) (xs : List X) → ((x : X) → Has xs x → flat_map P (v x) ≡ h x) → flat_map P (flat_map v xs) ≡ flat_map h xs
+pub flat_of_flat : {X M A : Type 0} (P : M → List A) (v : X → List M) (h : X → List A) (xs : List X)
+    → ((x : X) → Has xs x → flat_map P (v x) ≡ h x) → flat_map P (flat_map v xs) ≡ flat_map h xs
 flat_of_flat P v h [] each = refl
 flat_of_flat P v h (x ∷ xs) each =
-    flat_map-append P (v x) (flat_map v xs) ∙ ap (λ l. l ++ flat_map P (flat_map v xs)) (each x (inl refl)) ∙ ap (λ l. h x ++ l) (flat_of_flat P v h xs (λ y there. each y (inr there)))
+    flat_map-append P (v x) (flat_map v xs) ∙ ap (λ l. l ++ flat_map P (flat_map v xs)) (each x (inl refl))
+    ∙ ap (λ l. h x ++ l) (flat_of_flat P v h xs (λ y there. each y (inr there)))
 
 pub flat_of_nothing : {X A : Type 0} (f : X → List A) (xs : List X) → ((x : X) → f x ≡ []) → flat_map f xs ≡ []
 flat_of_nothing f [] each = refl
 flat_of_nothing f (x ∷ xs) each = ap (λ l. l ++ flat_map f xs) (each x) ∙ flat_of_nothing f xs each
 
-pub flat_of_map_at : {X M A : Type 0} (P : M → List A) (v : X → M) (h : X → List A) (xs : List X) → ((x : X) → Has xs x → P (v x) ≡ h x) → flat_map P (map v xs) ≡ flat_map h xs
+pub flat_of_map_at : {X M A : Type 0} (P : M → List A) (v : X → M) (h : X → List A) (xs : List X)
+    → ((x : X) → Has xs x → P (v x) ≡ h x) → flat_map P (map v xs) ≡ flat_map h xs
 flat_of_map_at P v h [] each = refl
-flat_of_map_at P v h (x ∷ xs) each = ap (λ l. l ++ flat_map P (map v xs)) (each x (inl refl)) ∙ ap (λ l. h x ++ l) (flat_of_map_at P v h xs (λ y there. each y (inr there)))
+flat_of_map_at P v h (x ∷ xs) each =
+    ap (λ l. l ++ flat_map P (map v xs)) (each x (inl refl))
+    ∙ ap (λ l. h x ++ l) (flat_of_map_at P v h xs (λ y there. each y (inr there)))
 
 pub flat_same : {X A : Type 0} (f g : X → List A) (xs : List X) → ((x : X) → f x ≡ g x) → flat_map f xs ≡ flat_map g xs
 flat_same f g [] each = refl
