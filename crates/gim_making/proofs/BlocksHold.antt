@@ -27,7 +27,7 @@ use Rattle.gim_shape.specs.Blocks.{named_at, jumps_of, jumps_to, predecessors}
 use Rattle.gim_shape.specs.Kept.{ItemFits, HasNoPhi, Leads, BlockHolds, HasEntry, HasShape}
 use Rattle.gim_shape.specs.Phis.{named_by_args, has_args, is_each_once}
 use Rattle.gim_limits.specs.Kept.{KeepsLimits}
-use Rattle.gim_making.specs.Declarations.{Declarations, declarations_of, number_of, version_of_name}
+use Rattle.gim_typing.specs.Declarations.{Declarations, declarations_of, number_of, version_of_name}
 use Rattle.gim_making.specs.Standing.{made}
 use Rattle.gim_making.specs.Trees.{arg_of, phi_of, end_of, block_of}
 use Rattle.gim_making.specs.Written.{IsWritten}

@@ -18,10 +18,11 @@ use Rattle.gim_names.specs.Kept.{KeepsNames}
 use Rattle.gim_shape.specs.Blocks.{is_among}
 use Rattle.gim_limits.specs.Kept.{KeepsLimits}
 use Rattle.gim_limits.specs.Limits.{version_at, versions_of, different}
-use Rattle.gim_making.specs.Declarations.{declarations_of, number_of}
+use Rattle.gim_typing.specs.Operands.{operand_of}
+use Rattle.gim_typing.specs.Declarations.{declarations_of, number_of}
 use Rattle.gim_making.specs.Names.{AreNames, version_of, name_place, named_rows}
 use Rattle.gim_making.specs.Standing.{made}
-use Rattle.gim_making.specs.Trees.{operand_of, block_of}
+use Rattle.gim_making.specs.Trees.{block_of}
 use Rattle.gim_making.specs.Written.{operands_in, IsWritten}
 use Rattle.gim_text.proofs.Membership.{Has, from_map, has_said, from_said, any_has, any_from_has}
 use Rattle.gim_making.proofs.MadeLemmas.{ArePhisFirst, made_operands}

@@ -1,4 +1,3 @@
-pub mod DeclaredLemmas
 pub mod RowLemmas
 pub mod ListLemmas
 pub mod MadeLemmas

@@ -23,9 +23,10 @@ use Rattle.gim_text.specs.declared.occurrence.Occurrence.TheVariants.{Assigned}
 use Rattle.gim_text.specs.Occurrences.{operands_in_right, operands_in_end, occurrences_of_item, occurrences_of_end, occurrences_of_block, occurrences_of, operand_at}
 use Rattle.gim_text.proofs.OccurrenceLemmas.{filter_of_flat, operand_in, operands_back, operands_in_args, operands_at_end, said_in_blocks, IsSilent, no_operands, no_args, no_end}
 use Rattle.gim_shape.specs.Kept.{HasNoPhi, HasPhisFirst}
-use Rattle.gim_making.specs.Declarations.{Declarations, declarations_of, version_of_name}
+use Rattle.gim_typing.specs.Operands.{operand_of, rhs_of}
+use Rattle.gim_typing.specs.Declarations.{Declarations, declarations_of, version_of_name}
 use Rattle.gim_making.specs.Standing.{made}
-use Rattle.gim_making.specs.Trees.{operand_of, rhs_of, arg_of, phi_of, stmt_of, end_of, block_of}
+use Rattle.gim_making.specs.Trees.{arg_of, phi_of, stmt_of, end_of, block_of}
 use Rattle.gim_making.specs.Written.{operands_in}
 use Rattle.gim_text.proofs.Membership.{Has, flat_of_map_at, flat_same, map-append, map_of_flat}
 

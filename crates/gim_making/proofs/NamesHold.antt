@@ -22,7 +22,7 @@ use Rattle.gim_text.specs.Occurrences.{occurrences_of}
 use Rattle.gim_names.specs.Parts.{version_in, assigned_version, base_default}
 use Rattle.gim_names.specs.Kept.{KeepsNames, locals_of, params_of, has_base, has_param, ident_text}
 use Rattle.gim_making.specs.declared.places.NamePlace.{NamePlace}
-use Rattle.gim_making.specs.Declarations.{Declarations, declarations_of, declared_type, type_by_base, type_by_parts, type_of_name, number_of, version_of_name, version_by_parts}
+use Rattle.gim_typing.specs.Declarations.{Declarations, declarations_of, declared_type, type_by_base, type_by_parts, type_of_name, number_of, version_of_name, version_by_parts}
 use Rattle.gim_making.specs.Names.{AreNames, version_of, plain, default_at, name_place, names_in, named_rows}
 use Rattle.gim_making.specs.Standing.{made}
 use Rattle.gim_making.specs.Trees.{decl_of}

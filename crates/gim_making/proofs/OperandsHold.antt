@@ -37,11 +37,12 @@ use Rattle.gim_text.specs.declared.occurrence.Occurrence.TheVariants.{Assigned, 
 use Rattle.gim_text.specs.Occurrences.{occurrences_of_item, occurrences_of}
 use Rattle.gim_names.specs.Kept.{KeepsNames}
 use Rattle.gim_making.specs.declared.places.NamePlace.{NamePlace}
-use Rattle.gim_making.specs.Declarations.{Declarations, declarations_of, type_of_name, number_of, version_of_name, version_by_parts}
+use Rattle.gim_typing.specs.Operands.{no_word, operand_of, rhs_of}
+use Rattle.gim_typing.specs.Declarations.{Declarations, declarations_of, type_of_name, number_of, version_of_name, version_by_parts}
 use Rattle.gim_making.specs.Names.{AreNames, first_of, plain, default_at, names_in, named_rows}
 use Rattle.gim_making.specs.Standing.{made}
-use Rattle.gim_making.specs.Trees.{no_word, operand_of, rhs_of, arg_of, phi_of, stmt_of, end_of, block_of}
-use Rattle.gim_making.specs.Types.{type_of_operand, form_fits, start_of, mismatch, place_of_arg, places_of_item, places_of_end, places_of_block, places_of_function}
+use Rattle.gim_making.specs.Trees.{arg_of, phi_of, stmt_of, end_of, block_of}
+use Rattle.gim_typing.specs.Types.{type_of_operand, form_fits, start_of, mismatch, place_of_arg, places_of_item, places_of_end, places_of_block, places_of_function}
 use Rattle.gim_making.specs.Written.{is_written, type_is_written, operands_in, IsWritten}
 use Rattle.gim_text.proofs.Membership.{Has, has_left, has_right, has_map, from_map, has_flat, from_flat, all_from_has, all_has}
 use Rattle.gim_making.proofs.MadeLemmas.{ArePhisFirst, made_operands}

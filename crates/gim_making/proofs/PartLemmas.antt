@@ -18,7 +18,7 @@ use Rattle.gim_text.specs.Texts.{name_parts, parts_from}
 use Rattle.pm_places.specs.Spans.{text_of}
 use Rattle.gim_text.proofs.NameLemmas.{parts_found}
 use Rattle.gim_names.specs.Kept.{ident_text, has_base}
-use Rattle.gim_making.specs.Declarations.{Declarations, declared_type, type_by_base, number_of}
+use Rattle.gim_typing.specs.Declarations.{Declarations, declared_type, type_by_base, number_of}
 use Rattle.gim_making.specs.Trees.{decl_of}
 
 pub some_is : {X : Type 0} (x y : X) → Some x ≡ Some y → x ≡ y

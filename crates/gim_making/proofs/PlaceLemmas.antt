@@ -21,7 +21,7 @@ use Rattle.gim_names.specs.Kept.{KeepsNames, locals_of, params_of, assigned_of, 
 use Rattle.gim_names.proofs.KeptParts.{one_second}
 use Rattle.gim_names.proofs.Saying.{declares}
 use Rattle.gim_making.specs.declared.places.NamePlace.{NamePlace}
-use Rattle.gim_making.specs.Declarations.{declarations_of, type_by_parts, type_of_name, number_of}
+use Rattle.gim_typing.specs.Declarations.{declarations_of, type_by_parts, type_of_name, number_of}
 use Rattle.gim_making.specs.Names.{plain, default_at, name_place, names_in, rows_by_parts, rows_of_place, named_rows}
 use Rattle.gim_text.proofs.Membership.{Has, has_contains, has_flat, from_flat, has_said, from_said, all_has, any_from_has}
 use Rattle.gim_making.proofs.PartLemmas.{some_is, parts_are, anonymous_has_parts, IsSmall, same_number}

@@ -12,7 +12,7 @@ use Rattle.gim_limits.specs.Kept.{KeepsLimits}
 use Rattle.gim_limits.proofs.LimitsKept.{limits_kept}
 use Rattle.gim_making.specs.Judged.{IsSound}
 use Rattle.gim_making.specs.Standing.{StandsFor, made}
-use Rattle.gim_making.specs.Types.{places_of_function, types_fault}
+use Rattle.gim_typing.specs.Types.{places_of_function, types_fault}
 use Rattle.gim_making.specs.Written.{IsWritten}
 use Rattle.gim_text.proofs.Membership.{Has, each_has, has_contains}
 use Rattle.gim_making.proofs.MadeLemmas.{ArePhisFirst}

@@ -18,9 +18,9 @@ use Rattle.gim_text.specs.declared.occurrence.Occurrence.TheVariants.{Parameter,
 use Rattle.gim_text.specs.Occurrences.{occurrences_of, operand_at}
 use Rattle.gim_names.specs.Parts.{assigned_text}
 use Rattle.gim_names.specs.Kept.{KeepsNames, locals_of, params_of, assigned_of, has_base, is_declared}
-use Rattle.gim_making.specs.Declarations.{declarations_of, version_of_name, version_by_parts}
+use Rattle.gim_typing.specs.Operands.{operand_of}
+use Rattle.gim_typing.specs.Declarations.{declarations_of, version_of_name, version_by_parts}
 use Rattle.gim_making.specs.Standing.{made}
-use Rattle.gim_making.specs.Trees.{operand_of}
 use Rattle.gim_making.specs.Written.{operands_in}
 use Rattle.gim_text.proofs.Membership.{Has, has_map, from_map, has_said, from_said, all_has, any_from_has, any_has}
 use Rattle.gim_making.proofs.Occurring.{operand_occurs}

@@ -5,7 +5,7 @@ use Rattle.gim_text.specs.declared.tree.FunctionText.{FunctionText}
 use Rattle.gim_names.specs.NamesFault.{names_fault}
 use Rattle.gim_shape.specs.Shape.{shape_fault}
 use Rattle.gim_limits.specs.Limits.{limits_fault}
-use Rattle.gim_making.specs.Types.{types_fault}
+use Rattle.gim_typing.specs.Types.{types_fault}
 use Rattle.gim_making.specs.Written.{IsWritten}
 
 -- Its functions are what tokens can write, and no name, shape, type or limit is at fault.

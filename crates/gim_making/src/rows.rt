@@ -7,11 +7,10 @@ ghost use Rattle.std.specs.Option.{option_or};
 ghost use Rattle.std.specs.Ordering.{nat_cmp};
 ghost use Rattle.gim_making.specs.Names.{AreNames, first_of, rows_of_place};
 
-use crate::numbers::number;
 use crate::places::NamePlace;
-use crate::scope::Scope;
 use gim_ast::NameRow;
 use gim_text::name_parts;
+use gim_typing::{Scope, number};
 use pm_items::Items;
 use pm_ops::{OutOfMemory, Text};
 use pm_places::text;

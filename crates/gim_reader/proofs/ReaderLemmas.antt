@@ -21,7 +21,7 @@ use Rattle.pm_places.specs.FirstFaults.{or_fault}
 use Rattle.gim_names.specs.NamesFault.{names_fault}
 use Rattle.gim_shape.specs.Shape.{shape_fault}
 use Rattle.gim_limits.specs.Limits.{limits_fault}
-use Rattle.gim_making.specs.Types.{types_fault}
+use Rattle.gim_typing.specs.Types.{types_fault}
 use Rattle.gim_making.specs.Judged.{IsSound}
 use Rattle.gim_making.proofs.Sound.{sound_files}
 use Rattle.gim_lexer.proofs.NumberTexts.{tokens_mean}

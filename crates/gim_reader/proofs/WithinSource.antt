@@ -37,8 +37,8 @@ use Rattle.gim_shape.specs.Blocks.{is_among, number_of, named_at, jumps_of, numb
 use Rattle.gim_limits.specs.Limits.{is_too_large, large_faults, function_limit_faults, limits_fault}
 use Rattle.gim_shape.specs.Phis.{args_fit, item_faults}
 use Rattle.gim_shape.specs.Shape.{end_fault, jump_fault, faults_among, body_faults, function_faults, shape_fault}
-use Rattle.gim_making.specs.Declarations.{Declarations, declarations_of, type_of_name}
-use Rattle.gim_making.specs.Types.{start_of, place_of_arg, places_of_item, places_of_end, places_of_block, places_of_function, types_fault}
+use Rattle.gim_typing.specs.Declarations.{Declarations, declarations_of, type_of_name}
+use Rattle.gim_typing.specs.Types.{start_of, place_of_arg, places_of_item, places_of_end, places_of_block, places_of_function, types_fault}
 use Rattle.gim_text.proofs.Membership.{Has, has_left, has_right, all_has, each_has}
 use Rattle.gim_making.proofs.Occurring.{in_tree, target_occurs, argument_occurs}
 use Rattle.gim_reader.specs.Files.{rules_fault, of_syntax, of_rules, IsFileFault, of_size, of_lexing, of_tokens, IsRefusal, by_memory, by_fault}

@@ -13,7 +13,7 @@ use Rattle.gim_syntax.specs.Grammar.{SpellsFile}
 use Rattle.gim_syntax.specs.SyntaxFaults.{IsSyntaxFault}
 use Rattle.gim_names.specs.NamesFault.{names_fault}
 use Rattle.gim_shape.specs.Shape.{shape_fault}
-use Rattle.gim_making.specs.Types.{types_fault}
+use Rattle.gim_typing.specs.Types.{types_fault}
 use Rattle.gim_limits.specs.Limits.{limits_fault}
 use Rattle.gim_making.specs.Standing.{StandsFor}
 use Rattle.gim_reader.specs.declared.TheConstants.{FILE_LIMIT}

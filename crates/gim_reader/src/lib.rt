@@ -17,12 +17,13 @@ ghost use Rattle.gim_reader.specs.Files.{IsFile, IsRefusal, FromTokens, IsTokens
 use gim_ast::Function;
 use gim_lexer::lex;
 use gim_limits::check_limits;
-use gim_making::{check_types, make};
+use gim_making::make;
 use gim_names::check_names;
 use gim_shape::check_shape;
 use gim_syntax::read_syntax;
 use gim_text::{FunctionText, Token};
 pub use gim_text::{GimpleFault, GimpleKind};
+use gim_typing::check_types;
 use std::alloc::Global;
 
 /// The greatest length of a file.

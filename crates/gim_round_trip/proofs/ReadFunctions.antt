@@ -19,7 +19,7 @@ use Rattle.gim_names.specs.NamesFault.{function_text}
 use Rattle.gim_names.proofs.Keeping.{each_keeps, functions_differ}
 use Rattle.gim_limits.specs.Kept.{KeepsLimits}
 use Rattle.gim_limits.proofs.LimitsKept.{limits_kept}
-use Rattle.gim_making.specs.Declarations.{declarations_of, number_of}
+use Rattle.gim_typing.specs.Declarations.{declarations_of, number_of}
 use Rattle.gim_making.specs.Names.{AreNames, version_of, named_rows}
 use Rattle.gim_making.specs.Standing.{StandsFor, made}
 use Rattle.gim_making.specs.Trees.{block_of}

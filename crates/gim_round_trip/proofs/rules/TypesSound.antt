@@ -29,10 +29,10 @@ use Rattle.gim_text.specs.declared.tree.OperandText.{OperandText}
 use Rattle.gim_text.specs.declared.tree.RightForm.{RightForm}
 use Rattle.gim_text.specs.declared.tree.RightForm.TheVariants.{Copy, Unary, Cast, Binary, Choice}
 use Rattle.pm_places.specs.FirstFaults.{first_fault}
-use Rattle.gim_making.specs.Declarations.{Declarations, declarations_of, type_of_name}
+use Rattle.gim_typing.specs.Operands.{rhs_of}
+use Rattle.gim_typing.specs.Declarations.{Declarations, declarations_of, type_of_name}
 use Rattle.gim_making.specs.Standing.{StandsFor}
-use Rattle.gim_making.specs.Trees.{rhs_of}
-use Rattle.gim_making.specs.Types.{types_fault, type_of_operand, form_fits, start_of, mismatch, place_of_arg, places_of_item, places_of_end, places_of_block, places_of_function}
+use Rattle.gim_typing.specs.Types.{types_fault, type_of_operand, form_fits, start_of, mismatch, place_of_arg, places_of_item, places_of_end, places_of_block, places_of_function}
 use Rattle.gim_text.proofs.Membership.{Has, has_either, from_map, from_flat, all_has}
 use Rattle.gim_making.proofs.PartLemmas.{type_itself}
 use Rattle.gim_round_trip.proofs.tree.Rows.{name_facts}

@@ -24,8 +24,8 @@ use Rattle.gim_text.specs.declared.tree.OperandText.{OperandText}
 use Rattle.gim_text.specs.declared.tree.OperandText.TheVariants.{Name, Default, Literal}
 use Rattle.gim_text.specs.Texts.{name_parts}
 use Rattle.pm_places.specs.Spans.{text_of}
-use Rattle.gim_making.specs.Declarations.{declarations_of, declared_type, type_by_base, type_by_parts, type_of_name, version_by_parts, version_of_name}
-use Rattle.gim_making.specs.Trees.{no_word, operand_of}
+use Rattle.gim_typing.specs.Operands.{no_word, operand_of}
+use Rattle.gim_typing.specs.Declarations.{declarations_of, declared_type, type_by_base, type_by_parts, type_of_name, version_by_parts, version_of_name}
 use Rattle.gim_text.proofs.Membership.{Has, has_map}
 use Rattle.gim_round_trip.proofs.tree.DistinctTexts.{front_distinct, rest_distinct, not_again, apart}
 use Rattle.gim_round_trip.proofs.tree.Rows.{name_facts, HasBase, bare, of_param, of_local, base_of_row, declared_as}

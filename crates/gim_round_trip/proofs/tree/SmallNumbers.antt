@@ -15,7 +15,7 @@ use Rattle.gim_ast.specs.WellFormed as ast
 use Rattle.gim_ast.specs.WellFormed.{IsWellFormed, same_text, all_distinct, numbers_of, phi_blocks}
 use Rattle.lexing.proofs.NumberLemmas.{number_below-decimal}
 use Rattle.gim_shape.specs.Blocks as shape
-use Rattle.gim_making.specs.Declarations.{number_of}
+use Rattle.gim_typing.specs.Declarations.{number_of}
 use Rattle.gim_text.proofs.SameTexts.{same_text_symm, same_text_itself, same_text_is}
 use Rattle.gim_text.proofs.Membership.{Has, all_has, any_has, has_map, has_flat, from_flat, has_either}
 use Rattle.gim_round_trip.specs.ReadBack.{IsWithinLimits}

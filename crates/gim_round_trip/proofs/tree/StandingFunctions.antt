@@ -29,9 +29,10 @@ use Rattle.gim_text.specs.declared.tree.ItemText.TheVariants as items
 use Rattle.gim_text.specs.declared.tree.RightForm.{RightForm}
 use Rattle.gim_text.specs.declared.tree.RightForm.TheVariants.{Copy, Unary, Cast, Binary, Choice}
 use Rattle.pm_places.specs.Spans.{text_of}
-use Rattle.gim_making.specs.Declarations.{Declarations, declarations_of, number_of}
+use Rattle.gim_typing.specs.Operands.{rhs_of}
+use Rattle.gim_typing.specs.Declarations.{Declarations, declarations_of, number_of}
 use Rattle.gim_making.specs.Standing.{made}
-use Rattle.gim_making.specs.Trees.{rhs_of, block_number, arg_of, phi_of, stmt_of, end_of, block_of, decl_of}
+use Rattle.gim_making.specs.Trees.{block_number, arg_of, phi_of, stmt_of, end_of, block_of, decl_of}
 use Rattle.gim_text.proofs.Membership.{Has, has_map}
 use Rattle.gim_round_trip.proofs.tree.SmallNumbers.{AreSmallNumbers, number_of_decimal, number_small, targets_small, phi_blocks_small}
 use Rattle.gim_round_trip.proofs.tree.WellFormedParts.{phi_operand, stmt_operand, end_operand, phi_row, stmt_row}

@@ -11,7 +11,7 @@ use Rattle.pm_places.specs.declared.span.Span.{Span}
 use Rattle.gim_text.specs.declared.tree.FunctionText.{FunctionText}
 use Rattle.gim_text.specs.Occurrences.{occurrences_of, name_at}
 use Rattle.gim_making.specs.declared.places.NamePlace.{NamePlace}
-use Rattle.gim_making.specs.Declarations.{Declarations, declarations_of, type_of_name, number_of}
+use Rattle.gim_typing.specs.Declarations.{Declarations, declarations_of, type_of_name, number_of}
 use Rattle.gim_making.specs.Names.{AreNames, is_default, name_place, names_in, first_of, version_of, rows_by_parts, rows_of_place, named_rows}
 use Rattle.gim_text.proofs.Membership.{Has, has_flat, from_flat, has_said, from_said}
 use Rattle.gim_making.proofs.NameRowLemmas.{first_of_here, first_of_in, one_of_version}

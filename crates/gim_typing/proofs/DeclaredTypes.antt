@@ -6,7 +6,7 @@ use Rattle.pm_wide.specs.Types.{Ty}
 use Rattle.gim_text.proofs.FrontsAndRests.{item_before}
 use Rattle.gim_text.specs.declared.tree.DeclText.{DeclText}
 use Rattle.pm_places.specs.Spans.{text_of}
-use Rattle.gim_making.specs.Declarations.{declared_type}
+use Rattle.gim_typing.specs.Declarations.{declared_type}
 
 -- one declaration more, before the others
 pub declared_step : (source q ident : List ℕ) (decls : List DeclText) (at : ℕ) (decl : DeclText) (old new : Option Ty) → 0 < at → at ≤ length decls → decl ≡ get_or decls (at - 1) decl

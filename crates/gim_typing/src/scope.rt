@@ -3,7 +3,7 @@
 ghost use Rattle.std.specs.Prelude.{◌≡◌, ℕ, List, [], IfOk, Option, option_map};
 ghost use Rattle.std.specs.HashMap.{get_by};
 ghost use Rattle.std.specs.Str.{bytes_eq};
-ghost use Rattle.gim_making.specs.Declarations.{Declarations, declarations_of, declared_type, type_by_base, type_of_name, version_of_name};
+ghost use Rattle.gim_typing.specs.Declarations.{Declarations, declarations_of, declared_type, type_by_base, type_of_name, version_of_name};
 
 use crate::numbers::number;
 use gim_text::{DeclText, FunctionText, name_parts};
@@ -16,7 +16,7 @@ use std::marker::Model;
 
 /// The declarations of a function, with tables in which they are looked up. Contracts see the declarations.
 #[derive(Drop)]
-pub(crate) struct Scope<'a> {
+pub struct Scope<'a> {
     source: &'a [u8],
     params: &'a [DeclText],
     locals: &'a [DeclText],
@@ -28,7 +28,7 @@ impl<'a> Model for Scope<'a> {
     ghost use Rattle.std.specs.Prelude.{◌≡◌, ℕ, List};
     ghost use Rattle.std.specs.HashMap.{get_by};
     ghost use Rattle.std.specs.Str.{bytes_eq};
-    ghost use Rattle.gim_making.specs.Declarations.{Declarations, declared_type};
+    ghost use Rattle.gim_typing.specs.Declarations.{Declarations, declared_type};
 
     ghost Value = { Declarations };
 
@@ -59,7 +59,7 @@ fn types<'a>(
 
 impl<'a> Scope<'a> {
     /// The declarations of a function.
-    pub(crate) fn new(
+    pub fn new(
         alloc: Global,
         source: &'a [u8],
         tree: &'a FunctionText,
@@ -78,7 +78,7 @@ impl<'a> Scope<'a> {
     }
 
     /// The bytes of the source.
-    pub(crate) fn source(&self) -> &'a [u8]
+    pub fn source(&self) -> &'a [u8]
         ensures { result.now ≡ self.now.source }
     {
         self.source
@@ -98,7 +98,7 @@ impl<'a> Scope<'a> {
     }
 
     /// The type of the name at a place.
-    pub(crate) fn type_of_name(&self, at: Span) -> IntType
+    pub fn type_of_name(&self, at: Span) -> IntType
         ensures { result ≡ type_of_name self.now at }
     {
         let ident = text(self.source(), at);
@@ -109,7 +109,7 @@ impl<'a> Scope<'a> {
     }
 
     /// The version of the name at a place.
-    pub(crate) fn version_of_name(&self, at: Span) -> u32
+    pub fn version_of_name(&self, at: Span) -> u32
         ensures { result ≡ version_of_name self.now.source at }
     {
         match name_parts(text(self.source(), at)) {

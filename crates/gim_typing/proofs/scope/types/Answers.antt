@@ -2,8 +2,8 @@ use Rattle.std.proofs.Common.{arith}
 use Rattle.std.specs.HashMap as hash
 use Rattle.std.specs.Str.{bytes_eq}
 use Rattle.std.proofs.lemmas.Map.Text.{hash_map_updates_str}
-use Rattle.gim_making.proofs.DeclaredLemmas.{declared_step}
-use Rattle.gim_making.proofs.scope.types.Goals as goal
+use Rattle.gim_typing.proofs.DeclaredTypes.{declared_step}
+use Rattle.gim_typing.proofs.scope.types.Goals as goal
 
 pub loop-at-preserved : goal.loop-at-preserved
 loop-at-preserved c = (

@@ -20,8 +20,8 @@ use Rattle.gim_text.specs.declared.tree.RightForm.{RightForm}
 use Rattle.gim_text.specs.declared.tree.RightForm.TheVariants.{Cast}
 use Rattle.gim_text.specs.Faults.{fault_at}
 use Rattle.pm_places.specs.FirstFaults.{first_fault}
-use Rattle.gim_making.specs.Declarations.{Declarations, declarations_of, type_of_name}
-use Rattle.gim_making.specs.Trees.{operand_of, rhs_of}
+use Rattle.gim_typing.specs.Operands.{operand_of, rhs_of}
+use Rattle.gim_typing.specs.Declarations.{Declarations, declarations_of, type_of_name}
 
 abbrev pub type_of_operand : Declarations → OperandText → Ty
 type_of_operand known a = type_of (operand_of known a)

@@ -1,14 +1,15 @@
-//! Types and functions of trees over one small text. The trees are written out; their places are found in the text.
+//! Types of trees over one small text. The trees are written out; their places are found in it.
 
-use super::*;
-use gim_ast::{End, Rhs};
+use crate::check_types;
 use gim_text::{
-    ArgText, BlockText, DeclText, EndText, GimpleKind, ItemText, LiteralText, LiteralType,
-    OperandText, RightForm, RightText,
+    ArgText, BlockText, DeclText, EndText, FunctionText, GimpleFault, GimpleKind, ItemText,
+    LiteralText, LiteralType, OperandText, RightForm, RightText,
 };
-use pm_ops::Code;
+use pm_items::Items;
+use pm_ops::{Code, OutOfMemory};
 use pm_places::Span;
-use pm_wide::{IntType, Operand, Wide};
+use pm_wide::IntType;
+use std::alloc::Global;
 use std::process::Abort;
 use std::test::Fail;
 
@@ -373,121 +374,5 @@ fn arguments_of_phis_before_later_faults(rt: HostRuntime) -> Result<(), Fail> {
     items.push(found)?;
     let fitting = file(rt.alloc(), items, None)?;
     judge(&rt, line, &fitting, None);
-    Ok(())
-}
-
-/// The blocks of the function that is made.
-fn blocks(alloc: Global) -> Result<Items<BlockText>, OutOfMemory> {
-    let line = "_2 = x_1(D) << y_5(D);";
-    let mut items = Items::new(alloc);
-    items.push(stmt(line, "_2", "x_1", RightForm::Binary(Code::Lshift, x(), y())))?;
-    let line = "if (-7 < y_5(D)) goto __BB2; else goto __BB30;";
-    let seven = literal(line, "-", LiteralType::Plain, "7");
-    let end = EndText::If(Code::Lt, seven, y(), at(line, "__BB2"), at(line, "__BB30"));
-    let mut blocks = Items::new(alloc);
-    blocks.push(block("__BB(2)", "2", items, Some(end)))?;
-    let mut items = Items::new(alloc);
-    let line = "_2 = __PHI (__BB4: x_1(D), __BB5: y_5(D));";
-    let found = phi(
-        alloc,
-        line,
-        &[arg(line, "__BB4", x()), arg(line, "__BB5", y())],
-    )?;
-    items.push(found)?;
-    let line = "_2 = z_9;";
-    items.push(stmt(line, "_2", "z_9", RightForm::Copy(name(line, "z_9"))))?;
-    let line = "_3 = (long) x_1(D);";
-    items.push(stmt(line, "_3", "(", RightForm::Cast(IntType::long(), x())))?;
-    blocks.push(block("__BB(30)", "30", items, Some(EndText::Return(y()))))?;
-    Ok(blocks)
-}
-
-fn made(alloc: Global) -> Result<Items<Function>, OutOfMemory> {
-    let mut file = Items::new(alloc);
-    let blocks = blocks(alloc)?;
-    let tree = tree(alloc, blocks)?;
-    file.push(tree)?;
-    make(alloc, SOURCE.as_bytes(), file.as_slice())
-}
-
-#[test]
-fn declarations_and_names_of_a_function(rt: HostRuntime) -> Result<(), Fail> {
-    let functions = made(rt.alloc())?;
-    assert_eq!(rt; functions.len(), 1);
-    let (int, long) = (IntType::int(), IntType::long());
-    for function in functions.as_slice() {
-        assert_eq!(rt; function.name.bytes(), b"f".as_slice());
-        assert!(rt; function.result == long);
-        let params = [("x", int), ("y", long)];
-        assert_eq!(rt; function.params.len(), params.len());
-        for (decl, (ident, ty)) in function.params.iter().zip(params.iter()) {
-            assert!(rt;
-                decl.ident.bytes() == ident.as_bytes() && decl.ty == *ty,
-                "{ident}"
-            );
-        }
-        let decls = ["_2", "_3", "_4", "z", "_7", "x_8"];
-        assert_eq!(rt; function.decls.len(), decls.len());
-        for (decl, ident) in function.decls.iter().zip(decls.iter()) {
-            assert!(rt; decl.ident.bytes() == ident.as_bytes(), "{ident}");
-        }
-        let rows = [
-            (1, "x", int, true),
-            (2, "", int, false),
-            (3, "", long, false),
-            (4, "", IntType::boolean(), false),
-            (5, "y", long, true),
-            (7, "", int, false),
-            (9, "z", int, false),
-        ];
-        assert_eq!(rt; function.names.len(), rows.len());
-        for (row, (version, base, ty, initial)) in function.names.iter().zip(rows.iter()) {
-            assert_eq!(rt; row.version, *version);
-            assert!(rt; row.base.bytes() == base.as_bytes(), "{version}");
-            assert!(rt; row.ty == *ty && row.initial == *initial, "{version}");
-        }
-    }
-    Ok(())
-}
-
-/// Whether a right side is this operation of these operands.
-fn is_operation(rhs: &Rhs, code: Code, operands: &[Operand]) -> bool {
-    match rhs {
-        Rhs::Op(found, list) => *found == code && list.as_slice() == operands,
-        Rhs::Copy(_) => false,
-    }
-}
-
-#[test]
-fn blocks_of_a_function(rt: HostRuntime) -> Result<(), Fail> {
-    let functions = made(rt.alloc())?;
-    let (int, long) = (IntType::int(), IntType::long());
-    let (x, y) = (Operand::Name(1, int), Operand::Name(5, long));
-    for function in functions.as_slice() {
-        assert_eq!(rt; function.blocks.len(), 2);
-        for (at, block) in function.blocks.iter().enumerate() {
-            assert_eq!(rt; block.number, if at == 0 { 2 } else { 30 });
-            assert_eq!(rt; block.phis.len(), at);
-            for phi in block.phis.as_slice() {
-                assert!(rt; phi.name == 2 && phi.args.as_slice() == [(4, x), (5, y)].as_slice());
-            }
-            assert_eq!(rt; block.stmts.len(), at + 1);
-            for (place, stmt) in block.stmts.iter().enumerate() {
-                let fits = match (at, place) {
-                    (0, _) => stmt.name == 2 && is_operation(&stmt.rhs, Code::Lshift, &[x, y]),
-                    (_, 0) => stmt.name == 2 && matches!(stmt.rhs, Rhs::Copy(Operand::Name(9, _))),
-                    _ => stmt.name == 3 && is_operation(&stmt.rhs, Code::Convert, &[x]),
-                };
-                assert!(rt; fits, "{at} {place}");
-            }
-            let seven = Operand::Const(Wide::reduce(7u128.wrapping_neg(), int));
-            let fits = match block.end {
-                End::If(Code::Lt, left, right, 2, 30) => at == 0 && left == seven && right == y,
-                End::Return(operand) => at == 1 && operand == y,
-                _ => false,
-            };
-            assert!(rt; fits, "{at}");
-        }
-    }
     Ok(())
 }
