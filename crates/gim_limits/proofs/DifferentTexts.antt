@@ -6,7 +6,7 @@ use Rattle.std.proofs.lemmas.Bool.{and_from, false≢true}
 use Rattle.gim_ast.specs.WellFormed.{same_text, all_distinct}
 use Rattle.gim_shape.specs.Blocks.{is_among}
 use Rattle.gim_limits.specs.Limits.{different}
-use Rattle.gim_limits.proofs.DifferentLemmas.{chosen_are_few}
+use Rattle.gim_limits.proofs.ChosenTexts.{chosen_are_few}
 use Rattle.gim_text.proofs.Membership.{Has, all_has, all_from_has, any_from_has, none_from_has}
 
 -- the different ones

@@ -24,8 +24,8 @@ use Rattle.gim_shape.specs.Blocks.{is_among}
 use Rattle.gim_limits.specs.Limits.{digits_at, is_any_above, blocks_among, version_at, versions_of, different}
 use Rattle.gim_limits.specs.Limits.{is_name_too_many, is_block_too_many, is_too_large, large_faults}
 use Rattle.gim_limits.specs.Limits.{function_limit_faults, limits_fault}
-use Rattle.gim_shape.proofs.JudgingLemmas.{none_first, none_of_all}
-use Rattle.gim_limits.specs.Kept.{NumberFits, KeepsLimits}
+use Rattle.gim_shape.proofs.Judging.{none_first, none_of_all}
+use Rattle.gim_limits.specs.KeepsLimits.{NumberFits, KeepsLimits}
 
 -- ---- different texts, in any order
 

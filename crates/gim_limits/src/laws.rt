@@ -6,7 +6,7 @@ ghost use Rattle.gim_ast.specs.WellFormed.{same_text, all_distinct};
 ghost use Rattle.gim_text.specs.declared.tree.FunctionText.{FunctionText};
 ghost use Rattle.gim_shape.specs.Blocks.{is_among};
 ghost use Rattle.gim_limits.specs.Limits.{different, limits_fault};
-ghost use Rattle.gim_limits.specs.Kept.{KeepsLimits};
+ghost use Rattle.gim_limits.specs.KeepsLimits.{KeepsLimits};
 
 /// Functions without a fault of limits have no more blocks and names than the limits allow, and no
 /// version or block number that is too large.

@@ -21,20 +21,20 @@ use Rattle.gim_text.specs.declared.tree.ItemText.{ItemText}
 use Rattle.gim_text.specs.declared.tree.ItemText.TheVariants as items
 use Rattle.gim_text.specs.Occurrences.{targets_in_end}
 use Rattle.pm_places.specs.Spans.{text_of}
-use Rattle.gim_names.specs.Kept.{KeepsNames, number_text}
+use Rattle.gim_names.specs.KeepsNames.{KeepsNames, number_text}
 use Rattle.gim_shape.specs.Blocks as shape
 use Rattle.gim_shape.specs.Blocks.{named_at, jumps_of, jumps_to, predecessors}
-use Rattle.gim_shape.specs.Kept.{ItemFits, HasNoPhi, Leads, BlockHolds, HasEntry, HasShape}
+use Rattle.gim_shape.specs.HasShape.{ItemFits, HasNoPhi, Leads, BlockHolds, HasEntry, HasShape}
 use Rattle.gim_shape.specs.Phis.{named_by_args, has_args, is_each_once}
-use Rattle.gim_limits.specs.Kept.{KeepsLimits}
+use Rattle.gim_limits.specs.KeepsLimits.{KeepsLimits}
 use Rattle.gim_typing.specs.Declarations.{Declarations, declarations_of, number_of, version_of_name}
 use Rattle.gim_making.specs.Standing.{made}
 use Rattle.gim_making.specs.Trees.{arg_of, phi_of, end_of, block_of}
 use Rattle.gim_making.specs.Written.{IsWritten}
 use Rattle.gim_text.proofs.Membership.{Has, from_map, from_flat, all_from_has, each_has}
 use Rattle.gim_making.proofs.Occurring.{target_occurs, argument_occurs}
-use Rattle.gim_making.proofs.MadeLemmas.{no_phis}
-use Rattle.gim_making.proofs.PartLemmas.{IsSmall, same_number}
+use Rattle.gim_making.proofs.MadeOperands.{no_phis}
+use Rattle.gim_making.proofs.NameParts.{IsSmall, same_number}
 use Rattle.gim_making.proofs.SmallNumbers.{small_block, small_target}
 
 -- ---- numbers and their texts

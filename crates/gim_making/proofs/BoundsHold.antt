@@ -14,9 +14,9 @@ use Rattle.gim_text.proofs.SameTexts.{same_text_is}
 use Rattle.gim_text.specs.declared.limits.TheConstants.{BLOCK_LIMIT, NAME_LIMIT}
 use Rattle.gim_text.specs.declared.tree.FunctionText.{FunctionText}
 use Rattle.gim_text.specs.Occurrences.{occurrences_of}
-use Rattle.gim_names.specs.Kept.{KeepsNames}
+use Rattle.gim_names.specs.KeepsNames.{KeepsNames}
 use Rattle.gim_shape.specs.Blocks.{is_among}
-use Rattle.gim_limits.specs.Kept.{KeepsLimits}
+use Rattle.gim_limits.specs.KeepsLimits.{KeepsLimits}
 use Rattle.gim_limits.specs.Limits.{version_at, versions_of, different}
 use Rattle.gim_typing.specs.Operands.{operand_of}
 use Rattle.gim_typing.specs.Declarations.{declarations_of, number_of}
@@ -25,9 +25,9 @@ use Rattle.gim_making.specs.Standing.{made}
 use Rattle.gim_making.specs.Trees.{block_of}
 use Rattle.gim_making.specs.Written.{operands_in, IsWritten}
 use Rattle.gim_text.proofs.Membership.{Has, from_map, has_said, from_said, any_has, any_from_has}
-use Rattle.gim_making.proofs.MadeLemmas.{ArePhisFirst, made_operands}
-use Rattle.gim_making.proofs.NameRowLemmas.{above, name_is_row}
-use Rattle.gim_making.proofs.PlaceLemmas.{AreSmall, row_place}
+use Rattle.gim_making.proofs.MadeOperands.{ArePhisFirst, made_operands}
+use Rattle.gim_making.proofs.NameRows.{above, name_is_row}
+use Rattle.gim_making.proofs.NamePlaces.{AreSmall, row_place}
 use Rattle.gim_making.proofs.SmallNumbers.{named_version}
 
 length-map : {X Y : Type 0} (f : X → Y) (xs : List X) → length (map f xs) ≡ length xs

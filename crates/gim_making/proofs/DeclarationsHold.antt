@@ -13,7 +13,7 @@ use Rattle.gim_text.specs.declared.tree.FunctionText.{FunctionText}
 use Rattle.gim_text.specs.declared.occurrence.Occurrence.{Occurrence}
 use Rattle.gim_text.specs.Occurrences.{occurrence_of_parameter, occurrence_of_local, occurrences_of_block}
 use Rattle.pm_places.specs.Spans.{text_of}
-use Rattle.gim_names.specs.Kept.{KeepsNames, ident_text, params_of, locals_of}
+use Rattle.gim_names.specs.KeepsNames.{KeepsNames, ident_text, params_of, locals_of}
 use Rattle.gim_making.specs.Standing.{made}
 use Rattle.gim_making.specs.Trees.{decl_of}
 use Rattle.gim_making.specs.Written.{has_written_type, is_written, IsWritten}

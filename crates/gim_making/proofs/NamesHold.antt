@@ -19,20 +19,20 @@ use Rattle.pm_places.specs.Spans.{text_of}
 use Rattle.gim_text.specs.declared.occurrence.Occurrence.{Occurrence}
 use Rattle.gim_text.specs.declared.occurrence.Occurrence.TheVariants.{Parameter, Local, Block, Jump, Assigned, Used, Default, Constant}
 use Rattle.gim_text.specs.Occurrences.{occurrences_of}
-use Rattle.gim_names.specs.Parts.{version_in, assigned_version, base_default}
-use Rattle.gim_names.specs.Kept.{KeepsNames, locals_of, params_of, has_base, has_param, ident_text}
+use Rattle.gim_names.specs.OccurrenceTexts.{version_in, assigned_version, base_default}
+use Rattle.gim_names.specs.KeepsNames.{KeepsNames, locals_of, params_of, has_base, has_param, ident_text}
 use Rattle.gim_making.specs.declared.places.NamePlace.{NamePlace}
 use Rattle.gim_typing.specs.Declarations.{Declarations, declarations_of, declared_type, type_by_base, type_by_parts, type_of_name, number_of, version_of_name, version_by_parts}
 use Rattle.gim_making.specs.Names.{AreNames, version_of, plain, default_at, name_place, names_in, named_rows}
 use Rattle.gim_making.specs.Standing.{made}
 use Rattle.gim_making.specs.Trees.{decl_of}
 use Rattle.gim_text.proofs.Membership.{Has, from_flat, from_map, has_said, from_said, all_from_has, any_from_has, none_from_has}
-use Rattle.gim_making.proofs.MadeLemmas.{ArePhisFirst, assigned_number, made_assigns}
+use Rattle.gim_making.proofs.MadeOperands.{ArePhisFirst, assigned_number, made_assigns}
 use Rattle.gim_making.proofs.Occurring.{local_occurs}
-use Rattle.gim_making.proofs.PartLemmas.{parts_are, anonymous_has_parts, IsSmall, same_number, declared_some, declares, typed, some_is}
-use Rattle.gim_making.proofs.PlaceLemmas.{AreSmall, PlaceFacts, one_each, in_names, local_here, place_facts, param_not_bare, row_at, one_row_at, row_place, place_row}
-use Rattle.gim_making.proofs.NameRowLemmas.{above, row_is_name, name_is_row}
-use Rattle.gim_making.proofs.UseLemmas.{assigned_at, assigned_to, assigned_from, used_is_assigned, used_from, default_is_used}
+use Rattle.gim_making.proofs.NameParts.{parts_are, anonymous_has_parts, IsSmall, same_number, declared_some, declares, typed, some_is}
+use Rattle.gim_making.proofs.NamePlaces.{AreSmall, PlaceFacts, one_each, in_names, local_here, place_facts, param_not_bare, row_at, one_row_at, row_place, place_row}
+use Rattle.gim_making.proofs.NameRows.{above, row_is_name, name_is_row}
+use Rattle.gim_making.proofs.AssignedAndUsed.{assigned_at, assigned_to, assigned_from, used_is_assigned, used_from, default_is_used}
 
 -- ---- bases
 

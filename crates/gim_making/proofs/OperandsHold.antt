@@ -35,7 +35,7 @@ use Rattle.gim_text.specs.Literals.{signed, literal_type, literal_word}
 use Rattle.pm_places.specs.Spans.{text_of}
 use Rattle.gim_text.specs.declared.occurrence.Occurrence.TheVariants.{Assigned, Used, Default, Constant}
 use Rattle.gim_text.specs.Occurrences.{occurrences_of_item, occurrences_of}
-use Rattle.gim_names.specs.Kept.{KeepsNames}
+use Rattle.gim_names.specs.KeepsNames.{KeepsNames}
 use Rattle.gim_making.specs.declared.places.NamePlace.{NamePlace}
 use Rattle.gim_typing.specs.Operands.{no_word, operand_of, rhs_of}
 use Rattle.gim_typing.specs.Declarations.{Declarations, declarations_of, type_of_name, number_of, version_of_name, version_by_parts}
@@ -45,11 +45,11 @@ use Rattle.gim_making.specs.Trees.{arg_of, phi_of, stmt_of, end_of, block_of}
 use Rattle.gim_typing.specs.Types.{type_of_operand, form_fits, start_of, mismatch, place_of_arg, places_of_item, places_of_end, places_of_block, places_of_function}
 use Rattle.gim_making.specs.Written.{is_written, type_is_written, operands_in, IsWritten}
 use Rattle.gim_text.proofs.Membership.{Has, has_left, has_right, has_map, from_map, has_flat, from_flat, all_from_has, all_has}
-use Rattle.gim_making.proofs.MadeLemmas.{ArePhisFirst, made_operands}
+use Rattle.gim_making.proofs.MadeOperands.{ArePhisFirst, made_operands}
 use Rattle.gim_making.proofs.Occurring.{in_item, operand_occurs}
-use Rattle.gim_making.proofs.PartLemmas.{type_itself}
-use Rattle.gim_making.proofs.PlaceLemmas.{AreSmall, in_names, place_facts, row_at, place_row}
-use Rattle.gim_making.proofs.NameRowLemmas.{found_row}
+use Rattle.gim_making.proofs.NameParts.{type_itself}
+use Rattle.gim_making.proofs.NamePlaces.{AreSmall, in_names, place_facts, row_at, place_row}
+use Rattle.gim_making.proofs.NameRows.{found_row}
 use Rattle.gim_shape.proofs.PlacesWithoutFault.{no_fault, none_at_each}
 
 -- ---- no fault

@@ -12,15 +12,15 @@ use Rattle.gim_text.specs.declared.occurrence.Occurrence.TheVariants.{Parameter,
 use Rattle.gim_text.specs.Occurrences.{name_at, occurrences_of}
 use Rattle.pm_places.specs.Spans.{text_of}
 use Rattle.gim_shape.specs.Blocks.{named_at}
-use Rattle.gim_limits.specs.Kept.{NumberFits, KeepsLimits}
+use Rattle.gim_limits.specs.KeepsLimits.{NumberFits, KeepsLimits}
 use Rattle.gim_limits.specs.Limits.{version_of, version_at, digits_at}
 use Rattle.gim_making.specs.declared.places.NamePlace.{NamePlace}
 use Rattle.gim_making.specs.Names.{is_default, name_place}
 use Rattle.gim_making.specs.Written.{is_written, IsWritten}
 use Rattle.gim_text.proofs.Membership.{Has, each_has, from_said, all_has}
 use Rattle.gim_making.proofs.Occurring.{number_occurs}
-use Rattle.gim_making.proofs.PartLemmas.{some_is, parts_are, IsSmall, small_number}
-use Rattle.gim_making.proofs.PlaceLemmas.{AreSmall}
+use Rattle.gim_making.proofs.NameParts.{some_is, parts_are, IsSmall, small_number}
+use Rattle.gim_making.proofs.NamePlaces.{AreSmall}
 
 -- ---- the digits of a name
 

@@ -2,4 +2,4 @@ pub mod Trees
 pub mod Names
 pub mod Standing
 pub mod Written
-pub mod Judged
+pub mod SoundFiles

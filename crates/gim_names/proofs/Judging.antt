@@ -15,11 +15,11 @@ use Rattle.pm_places.specs.FirstFaults.{or_fault, first_by}
 use Rattle.gim_text.specs.declared.occurrence.Occurrence.{Occurrence}
 use Rattle.gim_names.specs.declared.past.Past.{Past}
 use Rattle.gim_text.specs.Occurrences.{place_of, occurrences_of}
-use Rattle.gim_names.specs.Parts.{version_base, base_default}
+use Rattle.gim_names.specs.OccurrenceTexts.{version_base, base_default}
 use Rattle.gim_names.specs.Rules.{is_repeated, is_contradicted, is_marked_otherwise, has_other_base, has_other_mark, has_other_default, is_redefined, is_undeclared, is_wide}
 use Rattle.gim_names.specs.NamesFault.{first_kind, kind_of_occurrence, occurrence_fault, occurrences_fault, function_text, second_function, function_fault, names_fault}
 use Rattle.gim_names.specs.Tables.{HasTexts, Remembers, IsSound}
-use Rattle.gim_names.proofs.TableLemmas.{one_more}
+use Rattle.gim_names.proofs.TextTables.{one_more}
 
 -- ---- faults
 

@@ -7,7 +7,7 @@ ghost use Rattle.gim_names.specs.Tables.{Describes, Remembers, IsSound};
 ghost use Rattle.gim_names.specs.Rules as rules;
 ghost use Rattle.gim_names.specs.NamesFault as faults;
 
-use crate::parts::{
+use crate::occurrence_texts::{
     assigned_version, base_default, block_number, declared_text, default_version, parts_at,
     plain_version, version_base,
 };

@@ -7,7 +7,7 @@ ghost use Rattle.gim_text.specs.declared.tree.BlockText.{BlockText};
 ghost use Rattle.gim_text.specs.declared.tree.FunctionText.{FunctionText};
 ghost use Rattle.gim_text.specs.declared.occurrence.Occurrence.{Occurrence};
 ghost use Rattle.pm_places.specs.FirstFaults.{IsFirstPlace};
-ghost use Rattle.gim_names.specs.Kept.{KeepsNames, BlockKeepsNames, AreOne, OccurrencesDeclare};
+ghost use Rattle.gim_names.specs.KeepsNames.{KeepsNames, BlockKeepsNames, AreOne, OccurrencesDeclare};
 ghost use Rattle.gim_text.specs.Occurrences.{occurrences_of};
 ghost use Rattle.gim_names.specs.NamesFault.{occurrence_fault, occurrences_fault, function_text, function_fault, names_fault};
 

@@ -6,7 +6,7 @@
 
 mod judge;
 pub mod laws;
-mod parts;
+mod occurrence_texts;
 mod past;
 mod scope;
 mod tables;

@@ -3,7 +3,7 @@
 ghost use Rattle.std.specs.Prelude.{◌≡◌, ℕ, List, [], ◌∷◌, IfOk, OnOk};
 ghost use Rattle.gim_names.specs.Tables.{Remembers};
 
-use crate::parts::{
+use crate::occurrence_texts::{
     assigned_version, base_default, block_number, declared_text, default_version, plain_version,
     version_base,
 };

@@ -3,7 +3,7 @@
 ghost use Rattle.std.specs.Prelude.{◌≡◌, ℕ, List, [], ◌∷◌, IfOk, OnOk};
 ghost use Rattle.gim_names.specs.Tables.{Describes};
 
-use crate::parts::{assigned_text, local_text, param_text};
+use crate::occurrence_texts::{assigned_text, local_text, param_text};
 use crate::tables::put;
 use gim_text::Occurrence;
 use pm_ops::OutOfMemory;

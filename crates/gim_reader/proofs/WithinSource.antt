@@ -42,8 +42,8 @@ use Rattle.gim_typing.specs.Types.{start_of, place_of_arg, places_of_item, place
 use Rattle.gim_text.proofs.Membership.{Has, has_left, has_right, all_has, each_has}
 use Rattle.gim_making.proofs.Occurring.{in_tree, target_occurs, argument_occurs}
 use Rattle.gim_reader.specs.Files.{rules_fault, of_syntax, of_rules, IsFileFault, of_size, of_lexing, of_tokens, IsRefusal, by_memory, by_fault}
-use Rattle.gim_reader.proofs.ReaderLemmas.{known_trees}
-use Rattle.gim_reader.proofs.WrittenLemmas.{stands_in, occurrence_stands, item_stands, block_stands, IsPlaced, AllSure, all_sure, IsKnown}
+use Rattle.gim_reader.proofs.Stages.{known_trees}
+use Rattle.gim_reader.proofs.WrittenTrees.{stands_in, occurrence_stands, item_stands, block_stands, IsPlaced, AllSure, all_sure, IsKnown}
 
 -- ---- faults in a source of this length
 

@@ -14,10 +14,10 @@ use Rattle.gim_ast.specs.WellFormed.{same_text, all_distinct}
 use Rattle.lexing.proofs.NumberLemmas.{number_below_is}
 use Rattle.gim_text.specs.declared.limits.TheConstants.{BLOCK_LIMIT, NUMBER_LIMIT}
 use Rattle.gim_text.specs.declared.tree.FunctionText.{FunctionText}
-use Rattle.gim_names.specs.Kept.{KeepsNames}
+use Rattle.gim_names.specs.KeepsNames.{KeepsNames}
 use Rattle.gim_names.specs.NamesFault.{function_text}
-use Rattle.gim_names.proofs.Keeping.{each_keeps, functions_differ}
-use Rattle.gim_limits.specs.Kept.{KeepsLimits}
+use Rattle.gim_names.proofs.NamesKept.{each_keeps, functions_differ}
+use Rattle.gim_limits.specs.KeepsLimits.{KeepsLimits}
 use Rattle.gim_limits.proofs.LimitsKept.{limits_kept}
 use Rattle.gim_typing.specs.Declarations.{declarations_of, number_of}
 use Rattle.gim_making.specs.Names.{AreNames, version_of, named_rows}
@@ -26,10 +26,10 @@ use Rattle.gim_making.specs.Trees.{block_of}
 use Rattle.gim_making.proofs.BoundsHold.{version_digits, row_digits, all_by, few_names}
 use Rattle.gim_text.proofs.Membership.{has_contains, from_map, all_from_has, each_has}
 use Rattle.gim_making.proofs.SmallNumbers.{are_small}
-use Rattle.gim_making.proofs.Sound.{sound_files}
+use Rattle.gim_making.proofs.SoundFunctions.{sound_files}
 use Rattle.gim_reader.specs.declared.TheConstants.{FILE_LIMIT}
 use Rattle.gim_reader.specs.Files.{IsFile}
-use Rattle.gim_reader.proofs.ReaderLemmas.{sound}
+use Rattle.gim_reader.proofs.Stages.{sound}
 use Rattle.gim_round_trip.specs.ReadBack.{IsWithinLimits, function_names, MayBeReadBack}
 use Rattle.gim_round_trip.proofs.tree.SmallNumbers.{AreSmallNumbers}
 use Rattle.gim_round_trip.proofs.tree.PairedLists.{beside_second, same_images}

@@ -5,7 +5,7 @@ use Rattle.gim_text.specs.declared.fault.GimpleFault.{GimpleFault}
 use Rattle.pm_places.specs.FirstFaults.{first_fault, or_fault}
 use Rattle.pm_places.proofs.FaultLemmas.{first_fault-append}
 use Rattle.gim_text.proofs.Membership.{Has}
-use Rattle.gim_shape.proofs.JudgingLemmas.{none_first}
+use Rattle.gim_shape.proofs.Judging.{none_first}
 
 pub none_joined : (xs ys : List (Option GimpleFault)) → first_fault xs ≡ None → first_fault ys ≡ None → first_fault (xs ++ ys) ≡ None
 none_joined xs ys none_first none_later = first_fault-append xs ys ∙ ap (λ o. or_fault o (first_fault ys)) none_first ∙ none_later

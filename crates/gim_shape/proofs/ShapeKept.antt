@@ -18,9 +18,9 @@ use Rattle.pm_places.specs.FirstFaults.{first_fault}
 use Rattle.gim_shape.specs.Blocks.{is_among, number_of, named_at, jumps_of, numbers_of, predecessors}
 use Rattle.gim_shape.specs.Phis.{named_by_args, has_args, is_each_once, args_fit, phi_fault, item_faults}
 use Rattle.gim_shape.specs.Shape.{end_fault, jump_fault, faults_among, body_faults, function_faults, shape_fault}
-use Rattle.gim_shape.specs.Kept.{times, AreOneForEach, ItemFits, HasNoPhi, HasPhisFirst, Leads, BlockHolds, HasEntry, HasShape}
-use Rattle.gim_shape.proofs.DistinctLemmas.{not_true}
-use Rattle.gim_shape.proofs.JudgingLemmas.{none_first, none_parts, none_of_all}
+use Rattle.gim_shape.specs.HasShape.{times, AreOneForEach, ItemFits, HasNoPhi, HasPhisFirst, Leads, BlockHolds, HasEntry, HasShape}
+use Rattle.gim_shape.proofs.DistinctTexts.{not_true}
+use Rattle.gim_shape.proofs.Judging.{none_first, none_parts, none_of_all}
 
 -- ---- one argument for each block
 

@@ -1,5 +1,5 @@
 use Rattle.gim_making.specs.Standing.{StandsFor}
-use Rattle.gim_making.proofs.ListLemmas.{zip_more}
+use Rattle.gim_making.proofs.ZippedLists.{zip_more}
 use Rattle.gim_making.proofs.make.Goals as goal
 
 pub loop-tree-preserved : goal.loop-tree-preserved

@@ -9,7 +9,7 @@ use Rattle.gim_text.proofs.FrontsAndRests.{drop_step}
 use Rattle.gim_text.specs.Occurrences.{occurrences_of}
 use Rattle.gim_names.specs.Tables.{HasTexts}
 use Rattle.gim_names.proofs.Judging.{is_fault, is_fault_of, judges_err, names_begin, functions_second, functions_fault, functions_more}
-use Rattle.gim_names.proofs.TableLemmas.{put_step, none_has}
+use Rattle.gim_names.proofs.TextTables.{put_step, none_has}
 use Rattle.gim_names.proofs.check_names.Goals as goal
 
 pub loop-function-init : goal.loop-function-init

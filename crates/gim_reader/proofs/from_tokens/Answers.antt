@@ -1,4 +1,4 @@
-use Rattle.gim_reader.proofs.ReaderLemmas.{trees_only, trees_refused}
+use Rattle.gim_reader.proofs.Stages.{trees_only, trees_refused}
 use Rattle.gim_reader.proofs.from_tokens.Goals as goal
 
 pub returns-clause-only : goal.returns-clause-only

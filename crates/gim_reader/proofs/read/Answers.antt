@@ -1,5 +1,5 @@
 use Rattle.std.proofs.Common.{arith}
-use Rattle.gim_reader.proofs.ReaderLemmas.{well_formed, from_refused}
+use Rattle.gim_reader.proofs.Stages.{well_formed, from_refused}
 use Rattle.gim_reader.proofs.WithinSource.{refused_within}
 use Rattle.gim_reader.proofs.read.Goals as goal
 

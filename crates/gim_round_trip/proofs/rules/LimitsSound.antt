@@ -19,12 +19,12 @@ use Rattle.gim_text.specs.declared.tree.FunctionText.{FunctionText}
 use Rattle.pm_places.specs.FirstFaults.{first_fault}
 use Rattle.gim_text.specs.Occurrences.{occurrences_of, name_at, block_at}
 use Rattle.pm_places.specs.Spans.{text_of}
-use Rattle.gim_names.specs.Parts.{block_number}
+use Rattle.gim_names.specs.OccurrenceTexts.{block_number}
 use Rattle.gim_shape.specs.Blocks.{is_among}
 use Rattle.gim_limits.specs.Limits.{version_of, version_at, digits_at, is_above, is_any_above, blocks_among, versions_of, different, is_name_too_many, is_block_too_many, is_too_large, large_faults, function_limit_faults, limits_fault}
 use Rattle.gim_making.specs.Names.{version_of as row_version}
 use Rattle.gim_text.proofs.Membership.{Has, has_map, any_from_has, all_from_has, from_said}
-use Rattle.gim_making.proofs.PartLemmas.{some_is}
+use Rattle.gim_making.proofs.NameParts.{some_is}
 use Rattle.gim_limits.proofs.DifferentTexts.{few_different}
 use Rattle.gim_round_trip.proofs.rules.KeptRules.{NeverBy, never_either, never_among, never_each}
 use Rattle.gim_shape.proofs.PlacesWithoutFault.{none_of_each}

@@ -14,12 +14,12 @@ use Rattle.gim_text.specs.declared.tree.FunctionText.{FunctionText}
 use Rattle.gim_text.specs.Occurrences.{occurrences_of, name_at}
 use Rattle.gim_text.specs.Texts.{name_parts}
 use Rattle.pm_places.specs.Spans.{text_of}
-use Rattle.gim_names.specs.Parts.{version_in, turned, anonymous_parts, declared_text, block_number, assigned_version, plain_version, default_version, version_base, base_default}
+use Rattle.gim_names.specs.OccurrenceTexts.{version_in, turned, anonymous_parts, declared_text, block_number, assigned_version, plain_version, default_version, version_base, base_default}
 use Rattle.gim_names.specs.Rules.{stands, is_declared_again, is_assigned_again, has_other_base, has_other_mark, has_other_default, is_repeated, is_marked_otherwise, is_contradicted, is_redefined}
 use Rattle.gim_making.specs.Names.{is_default}
 use Rattle.gim_text.proofs.Membership.{Has, from_said}
-use Rattle.gim_making.proofs.NameRowLemmas.{one_of_version}
-use Rattle.gim_making.proofs.PartLemmas.{some_is, bare_is_anonymous}
+use Rattle.gim_making.proofs.NameRows.{one_of_version}
+use Rattle.gim_making.proofs.NameParts.{some_is, bare_is_anonymous}
 use Rattle.gim_round_trip.proofs.rules.KeptRules.{NeverBy, never_either, never_twice, never_both, never_differs}
 use Rattle.gim_round_trip.proofs.tree.DistinctTexts.{one_of}
 use Rattle.gim_round_trip.proofs.tree.OccurringTexts.{declared_said, numbers_said, versions_said}

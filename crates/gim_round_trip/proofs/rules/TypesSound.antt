@@ -34,7 +34,7 @@ use Rattle.gim_typing.specs.Declarations.{Declarations, declarations_of, type_of
 use Rattle.gim_making.specs.Standing.{StandsFor}
 use Rattle.gim_typing.specs.Types.{types_fault, type_of_operand, form_fits, start_of, mismatch, place_of_arg, places_of_item, places_of_end, places_of_block, places_of_function}
 use Rattle.gim_text.proofs.Membership.{Has, has_either, from_map, from_flat, all_has}
-use Rattle.gim_making.proofs.PartLemmas.{type_itself}
+use Rattle.gim_making.proofs.NameParts.{type_itself}
 use Rattle.gim_round_trip.proofs.tree.Rows.{name_facts}
 use Rattle.gim_round_trip.proofs.tree.WellFormedParts.{phi_operand, stmt_operand, end_operand, phi_row, stmt_row, end_fits_here}
 use Rattle.gim_round_trip.proofs.tree.KnownNames.{known_name, operand_is}

@@ -20,9 +20,9 @@ use Rattle.pm_places.specs.declared.span.Span.{Span}
 use Rattle.gim_text.specs.Occurrences.{occurrences_of}
 use Rattle.gim_text.specs.Texts.{name_parts}
 use Rattle.pm_places.specs.Spans.{text_of}
-use Rattle.gim_names.specs.Parts.{param_text, local_text}
+use Rattle.gim_names.specs.OccurrenceTexts.{param_text, local_text}
 use Rattle.gim_names.specs.Rules.{lacks_base, lacks_param, is_unassigned, is_undeclared, is_wide}
-use Rattle.gim_names.proofs.Keeping.{bare_is_anonymous}
+use Rattle.gim_names.proofs.NamesKept.{bare_is_anonymous}
 use Rattle.gim_text.proofs.Membership.{has_map, any_has, any_from_has, none_has}
 use Rattle.gim_round_trip.proofs.rules.KeptRules.{NeverBy, never_each}
 use Rattle.gim_round_trip.proofs.tree.OccurringTexts.{params_said, locals_said, assigned_said}

@@ -16,9 +16,9 @@ use Rattle.gim_text.specs.declared.tree.FunctionText.{FunctionText}
 use Rattle.gim_text.specs.Occurrences.{occurrences_of}
 use Rattle.gim_text.specs.Texts.{name_parts}
 use Rattle.gim_text.proofs.OccurrenceLemmas.{filter_of_map}
-use Rattle.gim_names.specs.Kept.{ident_text, number_text}
-use Rattle.gim_names.specs.Parts.{version_in, param_text, local_text, declared_text, block_number, assigned_text as text_assigned, assigned_version}
-use Rattle.gim_names.proofs.Saying.{declares}
+use Rattle.gim_names.specs.KeepsNames.{ident_text, number_text}
+use Rattle.gim_names.specs.OccurrenceTexts.{version_in, param_text, local_text, declared_text, block_number, assigned_text as text_assigned, assigned_version}
+use Rattle.gim_names.proofs.DeclaredIdentifiers.{declares}
 use Rattle.gim_text.proofs.Membership.{Has, map-append}
 use Rattle.gim_round_trip.proofs.tree.FunctionParts.{Part, assigns, parts_of, a_name, part_is, names_are}
 use Rattle.gim_making.proofs.Filters.{kept_of_images, images_kept}

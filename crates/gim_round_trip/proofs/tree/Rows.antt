@@ -22,8 +22,8 @@ use Rattle.gim_text.specs.Texts.{name_parts}
 use Rattle.gim_text.proofs.NameLemmas.{parts_found}
 use Rattle.gim_making.specs.Names.{version_of}
 use Rattle.gim_text.proofs.Membership.{Has, all_has, any_has, any_from_has, has_map}
-use Rattle.gim_making.proofs.NameRowLemmas.{first_of_here, first_of_in, one_of_version}
-use Rattle.gim_making.proofs.RowLemmas.{first_of_has}
+use Rattle.gim_making.proofs.NameRows.{first_of_here, first_of_in, one_of_version}
+use Rattle.gim_making.proofs.RowTables.{first_of_has}
 use Rattle.gim_round_trip.specs.ReadBack.{IsWithinLimits}
 
 -- ---- the rules on names, one by one

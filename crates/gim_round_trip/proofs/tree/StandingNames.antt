@@ -14,8 +14,8 @@ use Rattle.gim_making.specs.declared.places.NamePlace.{NamePlace}
 use Rattle.gim_typing.specs.Declarations.{Declarations, declarations_of, type_of_name, number_of}
 use Rattle.gim_making.specs.Names.{AreNames, is_default, name_place, names_in, first_of, version_of, rows_by_parts, rows_of_place, named_rows}
 use Rattle.gim_text.proofs.Membership.{Has, has_flat, from_flat, has_said, from_said}
-use Rattle.gim_making.proofs.NameRowLemmas.{first_of_here, first_of_in, one_of_version}
-use Rattle.gim_making.proofs.RowLemmas.{first_of_has}
+use Rattle.gim_making.proofs.NameRows.{first_of_here, first_of_in, one_of_version}
+use Rattle.gim_making.proofs.RowTables.{first_of_has}
 use Rattle.gim_round_trip.proofs.tree.KnownNames.{known_name}
 use Rattle.gim_round_trip.proofs.tree.Rows.{of_names, row_found}
 use Rattle.gim_round_trip.proofs.tree.SmallNumbers.{number_of_decimal}

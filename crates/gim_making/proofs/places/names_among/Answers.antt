@@ -1,6 +1,6 @@
 use Rattle.std.proofs.Common.{sym}
 use Rattle.gim_making.specs.Names.{name_place}
-use Rattle.gim_making.proofs.ListLemmas.{filter_map_more}
+use Rattle.gim_making.proofs.Filters.{filter_map_more}
 use Rattle.gim_making.proofs.places.names_among.Goals as goal
 
 pub loop-occurrence-preserved : goal.loop-occurrence-preserved

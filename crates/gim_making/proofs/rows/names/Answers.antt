@@ -3,7 +3,7 @@ use Rattle.std.specs.BTreeMap as tree
 use Rattle.std.specs.List.{flat_map}
 use Rattle.std.proofs.lemmas.Result.{IfOk-weaker}
 use Rattle.gim_making.specs.Names.{AreNames, rows_of_place}
-use Rattle.gim_making.proofs.RowLemmas.{are_names}
+use Rattle.gim_making.proofs.RowTables.{are_names}
 use Rattle.gim_making.proofs.rows.names.Goals as goal
 
 pub returns : goal.returns

@@ -1,4 +1,4 @@
-use Rattle.gim_names.proofs.OrLemmas.{or_first, or_second}
+use Rattle.gim_names.proofs.ShortCircuit.{or_first, or_second}
 use Rattle.gim_names.specs.Rules as rules
 use Rattle.gim_names.proofs.judge.is_redefined.Goals as goal
 

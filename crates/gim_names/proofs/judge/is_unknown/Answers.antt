@@ -1,6 +1,6 @@
 use Rattle.gim_text.specs.Texts.{name_parts}
 use Rattle.pm_places.specs.Spans.{text_of}
-use Rattle.gim_names.proofs.OrLemmas.{or_second}
+use Rattle.gim_names.proofs.ShortCircuit.{or_second}
 use Rattle.gim_names.specs.Rules as rules
 use Rattle.gim_names.proofs.judge.is_unknown.Goals as goal
 

@@ -1,7 +1,7 @@
 use Rattle.std.proofs.Common.{◌∙◌, List, ℕ, option_map, sym, ap}
 use Rattle.std.specs.Prelude.{not}
 use Rattle.std.specs.Borrow.{Bor}
-use Rattle.gim_names.proofs.TableLemmas.{other_some, other_none}
+use Rattle.gim_names.proofs.TextTables.{other_some, other_none}
 use Rattle.gim_names.proofs.tables.has_other.Goals as goal
 use Rattle.gim_text.proofs.SameTexts.{same_text_symm}
 

@@ -1,6 +1,6 @@
 use Rattle.std.specs.HashSet.{contains_by}
 use Rattle.std.specs.Str.{bytes_eq}
-use Rattle.gim_names.proofs.TableLemmas.{put_step}
+use Rattle.gim_names.proofs.TextTables.{put_step}
 use Rattle.gim_names.proofs.tables.put.Goals as goal
 
 pub returns-in_ok-insert : goal.returns-in_ok-insert

@@ -2,7 +2,7 @@ use Rattle.std.specs.HashMap.{get_by}
 use Rattle.std.specs.Map.{lookup}
 use Rattle.std.specs.Str.{bytes_eq}
 use Rattle.gim_ast.specs.WellFormed.{same_text}
-use Rattle.gim_names.proofs.TableLemmas.{pair_step}
+use Rattle.gim_names.proofs.TextTables.{pair_step}
 use Rattle.gim_names.proofs.tables.put_pair.Goals as goal
 
 pub returns-in_ok-insert : goal.returns-in_ok-insert

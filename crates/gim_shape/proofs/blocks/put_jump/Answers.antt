@@ -1,7 +1,7 @@
 use Rattle.std.proofs.Common.{ap, ◌∙◌}
 use Rattle.gim_ast.specs.WellFormed.{same_text}
 use Rattle.gim_shape.specs.Tables.{places_for}
-use Rattle.gim_shape.proofs.TableLemmas.{put_place}
+use Rattle.gim_shape.proofs.TextTables.{put_place}
 use Rattle.gim_shape.proofs.blocks.put_jump.Goals as goal
 use Rattle.gim_text.proofs.SameTexts.{same_text_symm, same_text_is}
 

@@ -1,5 +1,5 @@
 use Rattle.gim_ast.specs.WellFormed.{same_text}
-use Rattle.gim_shape.proofs.TableLemmas.{other_place}
+use Rattle.gim_shape.proofs.TextTables.{other_place}
 use Rattle.gim_shape.proofs.blocks.take_places.Goals as goal
 
 pub returns-in-Some-clause-others : goal.returns-in-Some-clause-others

@@ -2,7 +2,7 @@ use Rattle.std.proofs.Common.{take, map}
 use Rattle.std.specs.HashSet.{contains_by}
 use Rattle.std.specs.Str.{bytes_eq}
 use Rattle.pm_places.specs.Spans.{text_of}
-use Rattle.gim_shape.proofs.TableLemmas.{among_more}
+use Rattle.gim_shape.proofs.TextTables.{among_more}
 use Rattle.gim_shape.proofs.blocks.texts_at.Goals as goal
 use Rattle.gim_text.proofs.FrontsAndRests.{map_step_at}
 

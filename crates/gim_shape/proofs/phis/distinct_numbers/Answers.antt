@@ -4,8 +4,8 @@ use Rattle.gim_text.specs.declared.tree.ArgText.{ArgText}
 use Rattle.gim_shape.specs.Blocks.{named_at}
 use Rattle.gim_shape.specs.Tables.{has_text}
 use Rattle.gim_shape.specs.Phis.{named_by_args}
-use Rattle.gim_shape.proofs.TableLemmas.{among_more}
-use Rattle.gim_shape.proofs.DistinctLemmas.{distinct_more, not_distinct_at, not_false, not_true}
+use Rattle.gim_shape.proofs.TextTables.{among_more}
+use Rattle.gim_shape.proofs.DistinctTexts.{distinct_more, not_distinct_at, not_false, not_true}
 use Rattle.gim_shape.proofs.phis.distinct_numbers.Goals as goal
 
 pub returns-then-not-branch : goal.returns-then-not-branch

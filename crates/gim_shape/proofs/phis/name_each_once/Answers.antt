@@ -2,7 +2,7 @@ use Rattle.std.proofs.Common.{◌∙◌, map}
 use Rattle.pm_places.specs.Spans.{text_of}
 use Rattle.gim_shape.specs.Tables.{has_text}
 use Rattle.gim_shape.specs.Phis.{named_by_args}
-use Rattle.gim_shape.proofs.DistinctLemmas.{each_once_known}
+use Rattle.gim_shape.proofs.DistinctTexts.{each_once_known}
 use Rattle.gim_shape.proofs.phis.name_each_once.Goals as goal
 
 pub returns : goal.returns

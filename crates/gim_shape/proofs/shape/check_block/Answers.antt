@@ -3,7 +3,7 @@ use Rattle.gim_shape.specs.Blocks.{number_of}
 use Rattle.gim_shape.specs.Tables.{has_text, places_for}
 use Rattle.gim_shape.specs.Phis.{item_faults}
 use Rattle.gim_shape.specs.Shape.{jump_fault}
-use Rattle.gim_shape.proofs.JudgingLemmas.{front, behind, passed_on}
+use Rattle.gim_shape.proofs.Judging.{front, behind, passed_on}
 use Rattle.gim_shape.proofs.shape.check_block.Goals as goal
 use Rattle.gim_text.specs.Occurrences.{targets_in_end}
 

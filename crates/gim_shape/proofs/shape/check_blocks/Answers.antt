@@ -2,7 +2,7 @@ use Rattle.std.proofs.Common.{true, false}
 use Rattle.std.specs.List.{flat_map}
 use Rattle.gim_shape.specs.Tables.{has_text, places_for}
 use Rattle.gim_shape.specs.Shape.{block_faults}
-use Rattle.gim_shape.proofs.JudgingLemmas.{front, behind, passed_on}
+use Rattle.gim_shape.proofs.Judging.{front, behind, passed_on}
 use Rattle.gim_shape.proofs.shape.check_blocks.Goals as goal
 
 pub returns-in_err-check_block : goal.returns-in_err-check_block

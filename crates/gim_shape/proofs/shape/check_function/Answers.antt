@@ -1,6 +1,6 @@
 use Rattle.std.proofs.Common.{◌≡◌, ◌∷◌, drop, take, ◌-◌, length, arith}
 use Rattle.gim_shape.specs.Tables.{has_text, places_for}
-use Rattle.gim_shape.proofs.ShapeLemmas.{body_by_tables}
+use Rattle.gim_shape.proofs.FaultsByTables.{body_by_tables}
 use Rattle.gim_shape.proofs.shape.check_function.Goals as goal
 use Rattle.gim_text.proofs.FrontsAndRests.{first_and_rest}
 

@@ -1,7 +1,7 @@
 use Rattle.std.proofs.Common.{true}
 use Rattle.gim_shape.specs.Tables.{has_text, places_for}
 use Rattle.gim_shape.specs.Shape.{block_faults}
-use Rattle.gim_shape.proofs.JudgingLemmas.{front_of, behind_of, passed_on}
+use Rattle.gim_shape.proofs.Judging.{front_of, behind_of, passed_on}
 use Rattle.gim_shape.proofs.shape.check_rest.Goals as goal
 
 pub returns-in_err-check_block : goal.returns-in_err-check_block

@@ -1,7 +1,7 @@
 use Rattle.std.specs.List.{flat_map}
 use Rattle.std.proofs.lemmas.Result.{err_from_is_err_and}
 use Rattle.gim_typing.specs.Types.{places_of_item, places_of_end}
-use Rattle.gim_shape.proofs.JudgingLemmas.{front, behind}
+use Rattle.gim_shape.proofs.Judging.{front, behind}
 use Rattle.gim_typing.proofs.types.check_block.Goals as goal
 
 pub returns-in_err-check_items : goal.returns-in_err-check_items

@@ -1,6 +1,6 @@
 use Rattle.std.proofs.lemmas.Result.{err_from_is_err_and}
 use Rattle.gim_typing.specs.Types.{places_of_block}
-use Rattle.gim_shape.proofs.JudgingLemmas.{front_of, behind_of}
+use Rattle.gim_shape.proofs.Judging.{front_of, behind_of}
 use Rattle.gim_typing.proofs.types.check_blocks.Goals as goal
 
 pub returns-in_err-check_block : goal.returns-in_err-check_block

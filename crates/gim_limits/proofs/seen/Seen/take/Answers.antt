@@ -2,7 +2,7 @@ use Rattle.std.proofs.Common.{◌∙◌, length, sym}
 use Rattle.std.specs.List.{filter_map, cons_option}
 use Rattle.gim_text.specs.Occurrences.{block_at}
 use Rattle.gim_limits.specs.Limits.{digits_at, is_any_above, is_name_too_many, is_block_too_many, version_at, versions_of}
-use Rattle.gim_limits.proofs.LimitLemmas.{last_of_three}
+use Rattle.gim_limits.proofs.Counting.{last_of_three}
 use Rattle.gim_limits.proofs.seen.Seen.take.Goals as goal
 
 pub returns : goal.returns

@@ -3,8 +3,8 @@ use Rattle.std.specs.Prelude.{◌==◌}
 use Rattle.gim_shape.specs.Blocks.{is_among}
 use Rattle.gim_shape.specs.Tables.{has_text}
 use Rattle.gim_limits.specs.Limits.{different}
-use Rattle.gim_shape.proofs.DistinctLemmas.{not_true}
-use Rattle.gim_limits.proofs.LimitLemmas.{not_full, among_latest, one_more, other_count}
+use Rattle.gim_shape.proofs.DistinctTexts.{not_true}
+use Rattle.gim_limits.proofs.Counting.{not_full, among_latest, one_more, other_count}
 use Rattle.gim_limits.proofs.seen.Seen.take_version.Goals as goal
 use Rattle.gim_text.specs.declared.limits.TheConstants.{NAME_LIMIT}
 

@@ -3,7 +3,7 @@
 ghost use Rattle.std.specs.Prelude.{◌≡◌, option_map};
 ghost use Rattle.gim_text.specs.Texts.{name_parts};
 ghost use Rattle.pm_places.specs.Spans.{text_of};
-ghost use Rattle.gim_names.specs.Parts as parts;
+ghost use Rattle.gim_names.specs.OccurrenceTexts as texts;
 
 use gim_text::{Occurrence, name_parts};
 use pm_places::{Span, text};
@@ -17,7 +17,7 @@ pub(crate) fn parts_at(source: &[u8], at: Span) -> Option<(&[u8], &[u8])>
 
 /// The version of a name.
 fn version_at(source: &[u8], at: Span) -> Option<&[u8]>
-    ensures { option_map (λ x. x.now) result ≡ parts.version_in (name_parts (text_of source.now at)) }
+    ensures { option_map (λ x. x.now) result ≡ texts.version_in (name_parts (text_of source.now at)) }
 {
     match parts_at(source, at) {
         Some((_, version)) => Some(version),
@@ -27,7 +27,7 @@ fn version_at(source: &[u8], at: Span) -> Option<&[u8]>
 
 /// The version and the base of a name.
 fn based_at(source: &[u8], at: Span) -> Option<(&[u8], &[u8])>
-    ensures { option_map (λ x. (x.0.now, x.1.now)) result ≡ parts.turned (name_parts (text_of source.now at)) }
+    ensures { option_map (λ x. (x.0.now, x.1.now)) result ≡ texts.turned (name_parts (text_of source.now at)) }
 {
     match parts_at(source, at) {
         Some((base, version)) => Some((version, base)),
@@ -37,7 +37,7 @@ fn based_at(source: &[u8], at: Span) -> Option<(&[u8], &[u8])>
 
 /// The version and the base of an anonymous name.
 fn anonymous_at(source: &[u8], at: Span) -> Option<(&[u8], &[u8])>
-    ensures { option_map (λ x. (x.0.now, x.1.now)) result ≡ parts.turned (parts.anonymous_parts (name_parts (text_of source.now at))) }
+    ensures { option_map (λ x. (x.0.now, x.1.now)) result ≡ texts.turned (texts.anonymous_parts (name_parts (text_of source.now at))) }
 {
     match parts_at(source, at) {
         Some((base, version)) if base.is_empty() => Some((version, base)),
@@ -47,7 +47,7 @@ fn anonymous_at(source: &[u8], at: Span) -> Option<(&[u8], &[u8])>
 
 /// The identifier of a parameter.
 pub(crate) fn param_text<'a>(source: &'a [u8], occurrence: &Occurrence) -> Option<&'a [u8]>
-    ensures { option_map (λ x. x.now) result ≡ parts.param_text source.now occurrence.now }
+    ensures { option_map (λ x. x.now) result ≡ texts.param_text source.now occurrence.now }
 {
     match occurrence {
         Occurrence::Parameter(at) => Some(text(source, *at)),
@@ -57,7 +57,7 @@ pub(crate) fn param_text<'a>(source: &'a [u8], occurrence: &Occurrence) -> Optio
 
 /// The identifier of a local.
 pub(crate) fn local_text<'a>(source: &'a [u8], occurrence: &Occurrence) -> Option<&'a [u8]>
-    ensures { option_map (λ x. x.now) result ≡ parts.local_text source.now occurrence.now }
+    ensures { option_map (λ x. x.now) result ≡ texts.local_text source.now occurrence.now }
 {
     match occurrence {
         Occurrence::Local(at) => Some(text(source, *at)),
@@ -67,7 +67,7 @@ pub(crate) fn local_text<'a>(source: &'a [u8], occurrence: &Occurrence) -> Optio
 
 /// The identifier of a parameter or a local.
 pub(crate) fn declared_text<'a>(source: &'a [u8], occurrence: &Occurrence) -> Option<&'a [u8]>
-    ensures { option_map (λ x. x.now) result ≡ parts.declared_text source.now occurrence.now }
+    ensures { option_map (λ x. x.now) result ≡ texts.declared_text source.now occurrence.now }
 {
     match occurrence {
         Occurrence::Parameter(at) | Occurrence::Local(at) => Some(text(source, *at)),
@@ -77,7 +77,7 @@ pub(crate) fn declared_text<'a>(source: &'a [u8], occurrence: &Occurrence) -> Op
 
 /// The number of a block.
 pub(crate) fn block_number<'a>(source: &'a [u8], occurrence: &Occurrence) -> Option<&'a [u8]>
-    ensures { option_map (λ x. x.now) result ≡ parts.block_number source.now occurrence.now }
+    ensures { option_map (λ x. x.now) result ≡ texts.block_number source.now occurrence.now }
 {
     match occurrence {
         Occurrence::Block(at) => Some(text(source, *at)),
@@ -87,7 +87,7 @@ pub(crate) fn block_number<'a>(source: &'a [u8], occurrence: &Occurrence) -> Opt
 
 /// The whole identifier of a name that is assigned.
 pub(crate) fn assigned_text<'a>(source: &'a [u8], occurrence: &Occurrence) -> Option<&'a [u8]>
-    ensures { option_map (λ x. x.now) result ≡ parts.assigned_text source.now occurrence.now }
+    ensures { option_map (λ x. x.now) result ≡ texts.assigned_text source.now occurrence.now }
 {
     match occurrence {
         Occurrence::Assigned(at) => Some(text(source, *at)),
@@ -97,7 +97,7 @@ pub(crate) fn assigned_text<'a>(source: &'a [u8], occurrence: &Occurrence) -> Op
 
 /// The version of a name that is assigned.
 pub(crate) fn assigned_version<'a>(source: &'a [u8], occurrence: &Occurrence) -> Option<&'a [u8]>
-    ensures { option_map (λ x. x.now) result ≡ parts.assigned_version source.now occurrence.now }
+    ensures { option_map (λ x. x.now) result ≡ texts.assigned_version source.now occurrence.now }
 {
     match occurrence {
         Occurrence::Assigned(at) => version_at(source, *at),
@@ -107,7 +107,7 @@ pub(crate) fn assigned_version<'a>(source: &'a [u8], occurrence: &Occurrence) ->
 
 /// The version of a name without `(D)`.
 pub(crate) fn plain_version<'a>(source: &'a [u8], occurrence: &Occurrence) -> Option<&'a [u8]>
-    ensures { option_map (λ x. x.now) result ≡ parts.plain_version source.now occurrence.now }
+    ensures { option_map (λ x. x.now) result ≡ texts.plain_version source.now occurrence.now }
 {
     match occurrence {
         Occurrence::Assigned(at) | Occurrence::Used(at) => version_at(source, *at),
@@ -117,7 +117,7 @@ pub(crate) fn plain_version<'a>(source: &'a [u8], occurrence: &Occurrence) -> Op
 
 /// The version of a name with `(D)`.
 pub(crate) fn default_version<'a>(source: &'a [u8], occurrence: &Occurrence) -> Option<&'a [u8]>
-    ensures { option_map (λ x. x.now) result ≡ parts.default_version source.now occurrence.now }
+    ensures { option_map (λ x. x.now) result ≡ texts.default_version source.now occurrence.now }
 {
     match occurrence {
         Occurrence::Default(at) => version_at(source, *at),
@@ -130,7 +130,7 @@ pub(crate) fn version_base<'a>(
     source: &'a [u8],
     occurrence: &Occurrence,
 ) -> Option<(&'a [u8], &'a [u8])>
-    ensures { option_map (λ x. (x.0.now, x.1.now)) result ≡ parts.version_base source.now occurrence.now }
+    ensures { option_map (λ x. (x.0.now, x.1.now)) result ≡ texts.version_base source.now occurrence.now }
 {
     match occurrence {
         Occurrence::Local(at) => anonymous_at(source, *at),
@@ -146,7 +146,7 @@ pub(crate) fn base_default<'a>(
     source: &'a [u8],
     occurrence: &Occurrence,
 ) -> Option<(&'a [u8], &'a [u8])>
-    ensures { option_map (λ x. (x.0.now, x.1.now)) result ≡ parts.base_default source.now occurrence.now }
+    ensures { option_map (λ x. (x.0.now, x.1.now)) result ≡ texts.base_default source.now occurrence.now }
 {
     match occurrence {
         Occurrence::Default(at) => parts_at(source, *at),

@@ -22,7 +22,7 @@ use Rattle.gim_text.specs.declared.occurrence.Occurrence.{Occurrence}
 use Rattle.gim_text.specs.declared.occurrence.Occurrence.TheVariants.{Assigned}
 use Rattle.gim_text.specs.Occurrences.{operands_in_right, operands_in_end, occurrences_of_item, occurrences_of_end, occurrences_of_block, occurrences_of, operand_at}
 use Rattle.gim_text.proofs.OccurrenceLemmas.{filter_of_flat, operand_in, operands_back, operands_in_args, operands_at_end, said_in_blocks, IsSilent, no_operands, no_args, no_end}
-use Rattle.gim_shape.specs.Kept.{HasNoPhi, HasPhisFirst}
+use Rattle.gim_shape.specs.HasShape.{HasNoPhi, HasPhisFirst}
 use Rattle.gim_typing.specs.Operands.{operand_of, rhs_of}
 use Rattle.gim_typing.specs.Declarations.{Declarations, declarations_of, version_of_name}
 use Rattle.gim_making.specs.Standing.{made}

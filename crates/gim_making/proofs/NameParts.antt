@@ -17,7 +17,7 @@ use Rattle.gim_text.specs.declared.tree.DeclText.{DeclText}
 use Rattle.gim_text.specs.Texts.{name_parts, parts_from}
 use Rattle.pm_places.specs.Spans.{text_of}
 use Rattle.gim_text.proofs.NameLemmas.{parts_found}
-use Rattle.gim_names.specs.Kept.{ident_text, has_base}
+use Rattle.gim_names.specs.KeepsNames.{ident_text, has_base}
 use Rattle.gim_typing.specs.Declarations.{Declarations, declared_type, type_by_base, number_of}
 use Rattle.gim_making.specs.Trees.{decl_of}
 

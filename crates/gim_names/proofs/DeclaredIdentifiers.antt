@@ -3,8 +3,8 @@ use Rattle.std.proofs.Common.{◌≡◌, ℕ, List, [], ◌++◌, refl, ◌∙�
 use Rattle.std.proofs.lemmas.List.{append-nil}
 use Rattle.gim_text.specs.declared.tree.FunctionText.{FunctionText}
 use Rattle.gim_text.proofs.OccurrenceLemmas.{each_says, none_says, said_at_heads}
-use Rattle.gim_names.specs.Parts.{param_text, local_text, declared_text, block_number}
-use Rattle.gim_names.specs.Kept.{ident_text, params_of, locals_of, number_text, OccurrencesDeclare}
+use Rattle.gim_names.specs.OccurrenceTexts.{param_text, local_text, declared_text, block_number}
+use Rattle.gim_names.specs.KeepsNames.{ident_text, params_of, locals_of, number_text, OccurrencesDeclare}
 
 pub declares : (source : List ℕ) (f : FunctionText) → OccurrencesDeclare source f
 declares source f = record {

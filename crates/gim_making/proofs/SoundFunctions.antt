@@ -5,17 +5,17 @@ use Rattle.gim_ast.specs.declared.function.Function.{Function}
 use Rattle.gim_ast.specs.WellFormed.{IsWellFormed}
 use Rattle.gim_text.specs.declared.tree.FunctionText.{FunctionText}
 use Rattle.pm_places.specs.FirstFaults.{first_fault}
-use Rattle.gim_names.proofs.Keeping.{each_keeps}
-use Rattle.gim_shape.specs.Kept.{BlockHolds, HasShape}
+use Rattle.gim_names.proofs.NamesKept.{each_keeps}
+use Rattle.gim_shape.specs.HasShape.{BlockHolds, HasShape}
 use Rattle.gim_shape.proofs.ShapeKept.{shape_kept}
-use Rattle.gim_limits.specs.Kept.{KeepsLimits}
+use Rattle.gim_limits.specs.KeepsLimits.{KeepsLimits}
 use Rattle.gim_limits.proofs.LimitsKept.{limits_kept}
-use Rattle.gim_making.specs.Judged.{IsSound}
+use Rattle.gim_making.specs.SoundFiles.{IsSound}
 use Rattle.gim_making.specs.Standing.{StandsFor, made}
 use Rattle.gim_typing.specs.Types.{places_of_function, types_fault}
 use Rattle.gim_making.specs.Written.{IsWritten}
 use Rattle.gim_text.proofs.Membership.{Has, each_has, has_contains}
-use Rattle.gim_making.proofs.MadeLemmas.{ArePhisFirst}
+use Rattle.gim_making.proofs.MadeOperands.{ArePhisFirst}
 use Rattle.gim_making.proofs.SmallNumbers.{are_small}
 use Rattle.gim_making.proofs.DeclarationsHold.{declarations, types}
 use Rattle.gim_making.proofs.NamesHold.{names}

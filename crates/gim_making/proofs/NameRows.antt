@@ -6,10 +6,10 @@ use Rattle.std.proofs.lemmas.Bool.{and_parts, ltb-true, eqb-true, eq-eqb, falseâ
 use Rattle.gim_ast.specs.declared.function.NameRow.{NameRow}
 use Rattle.gim_ast.specs.WellFormed.{rises}
 use Rattle.gim_text.specs.declared.tree.FunctionText.{FunctionText}
-use Rattle.gim_names.specs.Kept.{KeepsNames}
+use Rattle.gim_names.specs.KeepsNames.{KeepsNames}
 use Rattle.gim_making.specs.Names.{AreNames, first_of, version_of, named_rows}
 use Rattle.gim_text.proofs.Membership.{Has}
-use Rattle.gim_making.proofs.PlaceLemmas.{AreSmall, rows_agree}
+use Rattle.gim_making.proofs.NamePlaces.{AreSmall, rows_agree}
 
 -- ---- the first row of a version
 

@@ -16,16 +16,16 @@ use Rattle.pm_places.specs.Spans.{text_of}
 use Rattle.gim_text.specs.declared.occurrence.Occurrence.{Occurrence}
 use Rattle.gim_text.specs.declared.occurrence.Occurrence.TheVariants.{Parameter, Local, Block, Jump, Assigned, Used, Default, Constant}
 use Rattle.gim_text.specs.Occurrences.{occurrences_of, operand_at}
-use Rattle.gim_names.specs.Parts.{assigned_text}
-use Rattle.gim_names.specs.Kept.{KeepsNames, locals_of, params_of, assigned_of, has_base, is_declared}
+use Rattle.gim_names.specs.OccurrenceTexts.{assigned_text}
+use Rattle.gim_names.specs.KeepsNames.{KeepsNames, locals_of, params_of, assigned_of, has_base, is_declared}
 use Rattle.gim_typing.specs.Operands.{operand_of}
 use Rattle.gim_typing.specs.Declarations.{declarations_of, version_of_name, version_by_parts}
 use Rattle.gim_making.specs.Standing.{made}
 use Rattle.gim_making.specs.Written.{operands_in}
 use Rattle.gim_text.proofs.Membership.{Has, has_map, from_map, has_said, from_said, all_has, any_from_has, any_has}
 use Rattle.gim_making.proofs.Occurring.{operand_occurs}
-use Rattle.gim_making.proofs.MadeLemmas.{ArePhisFirst, made_operands, assigned_number, made_assigns}
-use Rattle.gim_making.proofs.PartLemmas.{some_is}
+use Rattle.gim_making.proofs.MadeOperands.{ArePhisFirst, made_operands, assigned_number, made_assigns}
+use Rattle.gim_making.proofs.NameParts.{some_is}
 
 -- ---- assigned names
 

@@ -15,16 +15,16 @@ use Rattle.pm_places.specs.Spans.{text_of}
 use Rattle.gim_text.specs.declared.occurrence.Occurrence.{Occurrence}
 use Rattle.gim_text.specs.declared.occurrence.Occurrence.TheVariants.{Parameter, Local, Block, Jump, Assigned, Used, Default, Constant}
 use Rattle.gim_text.specs.Occurrences.{occurrences_of}
-use Rattle.gim_names.specs.Parts.{version_in, turned, anonymous_parts, local_text, plain_version, default_version, version_base, base_default}
+use Rattle.gim_names.proofs.OccurrencesAreOne.{one_second}
+use Rattle.gim_names.specs.OccurrenceTexts.{version_in, turned, anonymous_parts, local_text, plain_version, default_version, version_base, base_default}
 use Rattle.gim_names.specs.Tables.{have_one_each}
-use Rattle.gim_names.specs.Kept.{KeepsNames, locals_of, params_of, assigned_of, has_base, has_param, is_declared}
-use Rattle.gim_names.proofs.KeptParts.{one_second}
-use Rattle.gim_names.proofs.Saying.{declares}
+use Rattle.gim_names.specs.KeepsNames.{KeepsNames, locals_of, params_of, assigned_of, has_base, has_param, is_declared}
+use Rattle.gim_names.proofs.DeclaredIdentifiers.{declares}
 use Rattle.gim_making.specs.declared.places.NamePlace.{NamePlace}
 use Rattle.gim_typing.specs.Declarations.{declarations_of, type_by_parts, type_of_name, number_of}
 use Rattle.gim_making.specs.Names.{plain, default_at, name_place, names_in, rows_by_parts, rows_of_place, named_rows}
 use Rattle.gim_text.proofs.Membership.{Has, has_contains, has_flat, from_flat, has_said, from_said, all_has, any_from_has}
-use Rattle.gim_making.proofs.PartLemmas.{some_is, parts_are, anonymous_has_parts, IsSmall, same_number}
+use Rattle.gim_making.proofs.NameParts.{some_is, parts_are, anonymous_has_parts, IsSmall, same_number}
 
 -- ---- pairs
 

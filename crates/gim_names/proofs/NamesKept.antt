@@ -8,6 +8,7 @@ use Rattle.gim_ast.specs.Identifiers.{is_anonymous}
 use Rattle.lexing.specs.Numbers.{is_number_text}
 use Rattle.gim_ast.specs.WellFormed.{same_text, all_distinct}
 use Rattle.lexing.proofs.NumberLemmas.{number_text_is_digits}
+use Rattle.gim_text.proofs.Membership.{Has}
 use Rattle.gim_text.proofs.SameTexts.{same_text_symm}
 use Rattle.gim_text.specs.declared.fault.GimpleFault.{GimpleFault}
 use Rattle.gim_text.specs.declared.fault.GimpleKind.{GimpleKind}
@@ -24,12 +25,12 @@ use Rattle.pm_wide.specs.Types.{Word}
 use Rattle.gim_text.specs.declared.occurrence.Occurrence.{Occurrence}
 use Rattle.gim_text.specs.declared.occurrence.Occurrence.TheVariants.{Parameter, Local, Block, Jump, Assigned, Used, Default, Constant}
 use Rattle.gim_text.specs.Occurrences.{place_of, occurrences_of}
-use Rattle.gim_names.specs.Parts.{param_text, local_text, declared_text, block_number, assigned_text, assigned_version, plain_version, default_version, version_base, base_default}
+use Rattle.gim_names.specs.OccurrenceTexts.{param_text, local_text, declared_text, block_number, assigned_text, assigned_version, plain_version, default_version, version_base, base_default}
 use Rattle.gim_names.specs.Rules.{has_other_second, stands, differs, is_declared_again, is_assigned_again, is_repeated, is_contradicted, is_marked_otherwise, has_other_base, has_other_mark, has_other_default, is_redefined, is_bare, lacks_base, lacks_param, is_unassigned, is_undeclared, is_wide}
 use Rattle.gim_names.specs.NamesFault.{first_kind, kind_of_occurrence, occurrence_fault, occurrences_fault, function_text, second_function, function_fault, names_fault}
 use Rattle.gim_names.specs.Tables.{have_one_each}
-use Rattle.gim_names.specs.Kept.{locals_of, assigned_of, has_base, has_param, is_declared, has_word, KeepsNames}
-use Rattle.gim_names.proofs.Saying.{declares}
+use Rattle.gim_names.specs.KeepsNames.{locals_of, assigned_of, has_base, has_param, is_declared, has_word, KeepsNames}
+use Rattle.gim_names.proofs.DeclaredIdentifiers.{declares}
 
 -- ---- no fault in a list
 
@@ -59,10 +60,6 @@ every_at judge P tells before (y ∷ ys) none x (zero, lt, is) = subst P is (tel
 every_at judge P tells before (y ∷ ys) none x (suc k, lt, is) = every_at judge P tells (y ∷ before) ys none.1 x (k, omega (arith, lt), is)
 
 -- ---- no two alike
-
-abbrev Has : {X : Type 0} → List X → X → Type 0
-Has [] x = ⊥
-Has (y ∷ ys) x = (y ≡ x) ⊎ Has ys x
 
 apart_of : {X : Type 0} (E : X → X → Bool) (x : X) (known : List X) → list_any (E x) known ≡ false → (q : X) → Has known q → E x q ≡ false
 apart_of E x [] none q has = absurd has

@@ -22,13 +22,13 @@ use Rattle.gim_names.specs.NamesFault.{names_fault}
 use Rattle.gim_shape.specs.Shape.{shape_fault}
 use Rattle.gim_limits.specs.Limits.{limits_fault}
 use Rattle.gim_typing.specs.Types.{types_fault}
-use Rattle.gim_making.specs.Judged.{IsSound}
-use Rattle.gim_making.proofs.Sound.{sound_files}
+use Rattle.gim_making.specs.SoundFiles.{IsSound}
+use Rattle.gim_making.proofs.SoundFunctions.{sound_files}
 use Rattle.gim_lexer.proofs.NumberTexts.{tokens_mean}
 use Rattle.gim_lexer.proofs.Cutting.{tokens_in_order, tokens_stand}
 use Rattle.gim_reader.specs.declared.TheConstants.{FILE_LIMIT}
 use Rattle.gim_reader.proofs.OneFile.{stand_once}
-use Rattle.gim_reader.proofs.WrittenLemmas.{few_tokens, all_sure, IsKnown, file_known, file_written}
+use Rattle.gim_reader.proofs.WrittenTrees.{few_tokens, all_sure, IsKnown, file_known, file_written}
 use Rattle.gim_reader.specs.Files.{rules_fault, FromTokens, of_syntax, of_rules, of_lexing, of_tokens, IsRefusal, by_memory, by_fault, IsTokensRefusal, tokens_by_memory, tokens_by_fault}
 
 -- ---- from tokens

@@ -13,7 +13,7 @@ use Rattle.pm_places.specs.Spans.{text_of}
 use Rattle.gim_text.specs.declared.occurrence.Occurrence.{Occurrence}
 use Rattle.gim_text.specs.declared.occurrence.Occurrence.TheVariants.{Assigned, Used, Default, Constant}
 use Rattle.gim_text.specs.Occurrences.{occurrences_of_item, occurrences_of_end, occurrences_of}
-use Rattle.gim_names.specs.Parts.{param_text, local_text, declared_text, block_number, assigned_text, assigned_version, plain_version, default_version, version_base, base_default}
+use Rattle.gim_names.specs.OccurrenceTexts.{param_text, local_text, declared_text, block_number, assigned_text, assigned_version, plain_version, default_version, version_base, base_default}
 use Rattle.gim_names.specs.Tables.{have_one_each}
 
 abbrev pub ident_text : List ℕ → DeclText → List ℕ

@@ -6,7 +6,7 @@ use Rattle.std.proofs.lemmas.Bool.{and_parts, and_from, false_from_ne_true}
 use Rattle.gim_ast.specs.WellFormed.{same_text, all_distinct}
 use Rattle.gim_shape.specs.Blocks.{is_among}
 use Rattle.gim_limits.specs.Limits.{different}
-use Rattle.gim_shape.proofs.DistinctLemmas.{not_true}
+use Rattle.gim_shape.proofs.DistinctTexts.{not_true}
 use Rattle.gim_text.proofs.SameTexts.{same_text_is}
 
 -- the list without a text
