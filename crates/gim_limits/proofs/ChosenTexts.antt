@@ -112,4 +112,5 @@ chosen_are_few (t ∷ texts) chosen distinct all =
           → (list_all (is_among texts) (without t chosen) ≡ true → length (without t chosen) ≤ different texts)
           → length chosen ≤ different (t ∷ texts)
       by true e same fewer = rw e (same (among_same t texts chosen e all))
-      by false e same fewer = let lost = one_lost t chosen distinct in let rest = fewer (among_rest t texts chosen all) in rw e (omega arith)
+      by false e same fewer = let lost = one_lost t chosen distinct in let rest =
+          fewer (among_rest t texts chosen all) in rw e (omega arith)

@@ -1,11 +1,12 @@
 -- The parts of names, and the declarations of their bases.
-use Rattle.std.proofs.Common.{◌≡◌, ◌⊎◌, ℕ, Bool, true, false, cond, Option, Some, None, List, [], ◌∷◌, ◌++◌, map, lit≤, refl, sym, ap, subst, ◌∙◌, inl, inr}
+use Rattle.std.proofs.Common.{◌≡◌, ◌⊎◌, ℕ, Bool, true, false, cond, Option, Some, None, List, []}
+use Rattle.std.proofs.Common.{◌∷◌, ◌++◌, map, lit≤, refl, sym, ap, subst, ◌∙◌, inl, inr}
 use Rattle.std.specs.Prelude.{◌==◌, ◌&&◌, ◌||◌, not}
 use Rattle.std.specs.List.{list_any}
 use Rattle.std.specs.Option.{option_or, unwrap_or}
 use Rattle.std.specs.Fmt.{decimal}
 use Rattle.std.specs.Str.{bytes_eq}
-use Rattle.std.specs.Cmp.Lexicographic.{bytes_decides, nat_list_eq_equiv}
+use Rattle.std.specs.Cmp.Lexicographic.{nat_list_eq_equiv}
 use Rattle.std.proofs.lemmas.Bool.{and_parts, and_from, eqb-true, eq-eqb, false≢true}
 use Rattle.pm_wide.specs.Types.{Ty, same_type}
 use Rattle.gim_ast.specs.Identifiers.{is_anonymous}
@@ -26,14 +27,19 @@ some_is x y e = cc
 
 -- ---- the text of a name
 
-none_step : (t : Bool) (b : ℕ) (bytes base ds : List ℕ) → ((b == 95) && is_number_text bytes) ≡ t → cond {A = Option (List ℕ × List ℕ)} t (Some ([], bytes)) None ≡ Some (base, ds) → (b ∷ bytes ≡ base ++ 95 ∷ ds) × (is_number_text ds ≡ true)
+none_step : (t : Bool) (b : ℕ) (bytes base ds : List ℕ) → ((b == 95) && is_number_text bytes) ≡ t
+    → cond {A = Option (List ℕ × List ℕ)} t (Some ([], bytes)) None ≡ Some (base, ds) → (b ∷ bytes ≡ base ++ 95 ∷ ds)
+    × (is_number_text ds ≡ true)
 none_step false b bytes base ds is e = absurd cc
 none_step true b bytes base ds is e =
     let same : ([], bytes) ≡ (base, ds) = some_is ([], bytes) (base, ds) e in
     let p = and_parts (b == 95) (is_number_text bytes) is in
     let nothing : [] ≡ base = ap (λ (x : List ℕ × List ℕ). x.0) same in
-    let rest : bytes ≡ ds = ap (λ (x : List ℕ × List ℕ). x.1) same in
-    (ap (λ c. c ∷ bytes) (eqb-true b 95 p.0) ∙ ap (λ l. l ++ 95 ∷ bytes) nothing ∙ ap (λ l. base ++ 95 ∷ l) rest, subst (λ l. is_number_text l ≡ true) rest p.1)
+    let rest : bytes ≡ ds = ap (λ (x : List ℕ × List ℕ). x.1) same in (
+      ap (λ c. c ∷ bytes) (eqb-true b 95 p.0) ∙ ap (λ l. l ++ 95 ∷ bytes) nothing
+          ∙ ap (λ l. base ++ 95 ∷ l) rest,
+      subst (λ l. is_number_text l ≡ true) rest p.1,
+    )
 
 parts_step : (b : ℕ) (bytes : List ℕ) (found : Option (List ℕ × List ℕ)) (base ds : List ℕ)
     → ((x y : List ℕ) → found ≡ Some (x, y) → (bytes ≡ x ++ 95 ∷ y) × (is_number_text y ≡ true))
@@ -79,30 +85,38 @@ same_number a b small_a small_b e = small_a ∙ ap decimal e ∙ sym small_b
 -- ---- declarations
 
 pub type_itself : (t : Ty) → same_type t t ≡ true
-type_itself t = and_from (t.width == t.width) (cond t.unsigned t.unsigned (not t.unsigned)) (eq-eqb t.width t.width refl) (one t.unsigned) where
-  one : (u : Bool) → cond u u (not u) ≡ true
-  one true = refl
-  one false = refl
+type_itself t =
+    and_from (t.width == t.width) (cond t.unsigned t.unsigned (not t.unsigned)) (eq-eqb t.width t.width refl)
+    (one t.unsigned) where
+      one : (u : Bool) → cond u u (not u) ≡ true
+      one true = refl
+      one false = refl
 
-declared_by : (b : Bool) (t : Ty) (later : Option Ty) (any : Bool) → (any ≡ true → (u : Ty) × (later ≡ Some u)) → (b || any) ≡ true → (u : Ty) × (cond b (Some t) later ≡ Some u)
+declared_by : (b : Bool) (t : Ty) (later : Option Ty) (any : Bool) → (any ≡ true → (u : Ty) × (later ≡ Some u))
+    → (b || any) ≡ true → (u : Ty) × (cond b (Some t) later ≡ Some u)
 declared_by true t later any h e = (t, refl)
 declared_by false t later any h e = h e
 
-pub declared_some : (source q : List ℕ) (decls : List DeclText) → list_any (same_text q) (map (ident_text source) decls) ≡ true → (t : Ty) × (declared_type source q decls ≡ Some t)
+pub declared_some : (source q : List ℕ) (decls : List DeclText)
+    → list_any (same_text q) (map (ident_text source) decls) ≡ true → (t : Ty) × (declared_type source q decls ≡ Some t)
 declared_some source q [] h = absurd (false≢true h)
 declared_some source q (decl ∷ decls) h =
-    declared_by (same_text q (text_of source decl.ident)) decl.ty (declared_type source q decls) (list_any (same_text q) (map (ident_text source) decls)) (λ later. declared_some source q decls later) h
+    declared_by (same_text q (text_of source decl.ident)) decl.ty (declared_type source q decls)
+    (list_any (same_text q) (map (ident_text source) decls)) (λ later. declared_some source q decls later) h
 
-declares_by : (b c later : Bool) (t u : Ty) (rest : Option Ty) → b ≡ c → (rest ≡ Some u → later ≡ true) → cond b (Some t) rest ≡ Some u → ((c && same_type t u) || later) ≡ true
+declares_by : (b c later : Bool) (t u : Ty) (rest : Option Ty) → b ≡ c → (rest ≡ Some u → later ≡ true)
+    → cond b (Some t) rest ≡ Some u → ((c && same_type t u) || later) ≡ true
 declares_by true c later t u rest same h e =
     let types : t ≡ u = some_is t u e in
     rw (← same) (ap (λ s. s || later) (ap (same_type t) (sym types) ∙ type_itself t))
 declares_by false c later t u rest same h e = rw (← same) (h e)
 
-pub declares : (source q : List ℕ) (decls : List DeclText) (t : Ty) → declared_type source q decls ≡ Some t → declares_as q t (map (decl_of source) decls) ≡ true
+pub declares : (source q : List ℕ) (decls : List DeclText) (t : Ty) → declared_type source q decls ≡ Some t
+    → declares_as q t (map (decl_of source) decls) ≡ true
 declares source q [] t e = absurd cc
 declares source q (decl ∷ decls) t e =
-    declares_by (bytes_eq q (text_of source decl.ident)) (same_text (text_of source decl.ident) q) (declares_as q t (map (decl_of source) decls)) decl.ty t (declared_type source q decls)
+    declares_by (bytes_eq q (text_of source decl.ident)) (same_text (text_of source decl.ident) q)
+    (declares_as q t (map (decl_of source) decls)) decl.ty t (declared_type source q decls)
     (nat_list_eq_equiv.symm q (text_of source decl.ident)) (λ later. declares source q decls t later) e
 
 either_typed : (a b : Option Ty) → ((t : Ty) × (a ≡ Some t)) ⊎ ((t : Ty) × (b ≡ Some t)) → (t : Ty) × (option_or a b ≡ Some t)
@@ -115,12 +129,15 @@ or_sides true b h = inl refl
 or_sides false b h = inr h
 
 -- a name of a declared base has a type
-pub typed : (known : Declarations) (text base ds : List ℕ) → has_base (map (ident_text known.source) known.locals) (map (ident_text known.source) known.params) text (Some (base, ds)) ≡ true
+pub typed : (known : Declarations) (text base ds : List ℕ)
+    → has_base (map (ident_text known.source) known.locals) (map (ident_text known.source) known.params) text
+    (Some (base, ds)) ≡ true
     → (t : Ty) × (type_by_base known text base ≡ Some t)
 typed known text [] ds h = declared_some known.source text known.locals h
 typed known text (b ∷ base) ds h =
     either_typed (declared_type known.source (b ∷ base) known.params) (declared_type known.source (b ∷ base) known.locals)
-    (elim (or_sides (list_any (same_text (b ∷ base)) (map (ident_text known.source) known.locals)) (list_any (same_text (b ∷ base)) (map (ident_text known.source) known.params)) h) [
+    (elim (or_sides (list_any (same_text (b ∷ base)) (map (ident_text known.source) known.locals))
+    (list_any (same_text (b ∷ base)) (map (ident_text known.source) known.params)) h) [
       | inl l ↦ inr (declared_some known.source (b ∷ base) known.locals l)
       | inr r ↦ inl (declared_some known.source (b ∷ base) known.params r)
     ])

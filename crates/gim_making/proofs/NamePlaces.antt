@@ -1,5 +1,7 @@
 -- What is known of each place of a name, where the rules on names are kept and versions are below the limit.
-use Rattle.std.proofs.Common.{◌≡◌, ◌⊎◌, ℕ, Bool, true, false, cond, Option, Some, None, option_map, List, [], ◌∷◌, ◌++◌, refl, sym, ap, subst, ◌∙◌, inl, inr}
+use Rattle.std.proofs.Common.{◌≡◌, ◌⊎◌, ℕ, Bool, true, false, cond, Option, Some, None}
+use Rattle.std.proofs.Common.{option_map, List, [], ◌∷◌, ◌++◌, refl, sym, ap, subst, ◌∙◌, inl}
+use Rattle.std.proofs.Common.{inr}
 use Rattle.std.specs.Prelude.{◌||◌}
 use Rattle.std.specs.List.{list_any, filter_map}
 use Rattle.std.proofs.lemmas.Bool.{and_parts, false≢true}
@@ -16,7 +18,9 @@ use Rattle.gim_text.specs.declared.occurrence.Occurrence.{Occurrence}
 use Rattle.gim_text.specs.declared.occurrence.Occurrence.TheVariants.{Parameter, Local, Block, Jump, Assigned, Used, Default, Constant}
 use Rattle.gim_text.specs.Occurrences.{occurrences_of}
 use Rattle.gim_names.proofs.OccurrencesAreOne.{one_second}
-use Rattle.gim_names.specs.OccurrenceTexts.{version_in, turned, anonymous_parts, local_text, plain_version, default_version, version_base, base_default}
+use Rattle.gim_names.specs.OccurrenceTexts.{version_in, turned, anonymous_parts, local_text}
+use Rattle.gim_names.specs.OccurrenceTexts.{plain_version, default_version, version_base}
+use Rattle.gim_names.specs.OccurrenceTexts.{base_default}
 use Rattle.gim_names.specs.Tables.{have_one_each}
 use Rattle.gim_names.specs.KeepsNames.{KeepsNames, locals_of, params_of, assigned_of, has_base, has_param, is_declared}
 use Rattle.gim_names.proofs.DeclaredIdentifiers.{declares}
@@ -36,7 +40,9 @@ one_each pairs k v w h a b = one_second pairs h (k, v) (k, w) (has_contains pair
 
 -- each name's version is written below the limit
 abbrev pub AreSmall : List ℕ → FunctionText → Type 0
-AreSmall source tree = (place : NamePlace) → Has (names_in source tree) place → (base digits : List ℕ) → name_parts (text_of source place.at) ≡ Some (base, digits) → IsSmall digits
+AreSmall source tree =
+    (place : NamePlace) → Has (names_in source tree) place → (base digits : List ℕ)
+    → name_parts (text_of source place.at) ≡ Some (base, digits) → IsSmall digits
 
 pub record PlaceFacts (source : List ℕ) (tree : FunctionText) (place : NamePlace) : Type 0 where
   pub base : List ℕ
@@ -50,7 +56,8 @@ pub record PlaceFacts (source : List ℕ) (tree : FunctionText) (place : NamePla
   pub default_pair : place.initial ≡ true → Has (filter_map (base_default source) (occurrences_of tree)) (base, digits)
   pub written : place.initial ≡ false → (base ≡ []) ⊎ Has (filter_map (plain_version source) (occurrences_of tree)) digits
 
-has_some : (locals params : List (List ℕ)) (text : List ℕ) (o : Option (List ℕ × List ℕ)) → has_base locals params text o ≡ true → (p : List ℕ × List ℕ) × (o ≡ Some p)
+has_some : (locals params : List (List ℕ)) (text : List ℕ) (o : Option (List ℕ × List ℕ))
+    → has_base locals params text o ≡ true → (p : List ℕ × List ℕ) × (o ≡ Some p)
 has_some locals params text None h = absurd (false≢true h)
 has_some locals params text (Some p) h = (p, refl)
 
@@ -62,23 +69,30 @@ or_later : (a b : Bool) → b ≡ true → (a || b) ≡ true
 or_later true b h = refl
 or_later false b h = h
 
-param_has_base : (locals params : List (List ℕ)) (text base digits : List ℕ) → has_param params (Some (base, digits)) ≡ true → has_base locals params text (Some (base, digits)) ≡ true
+param_has_base : (locals params : List (List ℕ)) (text base digits : List ℕ)
+    → has_param params (Some (base, digits)) ≡ true → has_base locals params text (Some (base, digits)) ≡ true
 param_has_base locals params text [] digits h = absurd (false≢true h)
-param_has_base locals params text (b ∷ base) digits h = or_later (list_any (same_text (b ∷ base)) locals) (list_any (same_text (b ∷ base)) params) h
+param_has_base locals params text (b ∷ base) digits h =
+    or_later (list_any (same_text (b ∷ base)) locals) (list_any (same_text (b ∷ base)) params) h
 
 pub param_not_bare : (params : List (List ℕ)) (base digits : List ℕ) → has_param params (Some (base, digits)) ≡ true → base ≡ [] → ⊥
 param_not_bare params base digits h bare = false≢true (ap (λ b. has_param params (Some (b, digits))) (sym bare) ∙ h)
 
 -- a name that occurs stands among the places of names
-pub in_names : (source : List ℕ) (tree : FunctionText) (o : Occurrence) (place : NamePlace) → Has (occurrences_of tree) o → name_place source o ≡ Some place → Has (names_in source tree) place
+pub in_names : (source : List ℕ) (tree : FunctionText) (o : Occurrence) (place : NamePlace)
+    → Has (occurrences_of tree) o → name_place source o ≡ Some place → Has (names_in source tree) place
 in_names source tree o place there is = has_said (name_place source) (occurrences_of tree) o place there is
 
-local_facts : (source : List ℕ) (tree : FunctionText) → AreSmall source tree → (at : Span) → Has (occurrences_of tree) (Local at) → is_anonymous (text_of source at) ≡ true → Has (names_in source tree) (plain at) → PlaceFacts source tree (plain at)
+local_facts : (source : List ℕ) (tree : FunctionText) → AreSmall source tree → (at : Span)
+    → Has (occurrences_of tree) (Local at) → is_anonymous (text_of source at) ≡ true
+    → Has (names_in source tree) (plain at) → PlaceFacts source tree (plain at)
 local_facts source tree small at there anonymous name =
     let ms = occurrences_of tree in
     let text = text_of source at in
     let found = anonymous_has_parts text anonymous in
-    let local : Has (locals_of source tree) text = subst (λ l. Has l text) (declares source tree).locals (has_said (local_text source) ms (Local at) text there refl) in
+    let local : Has (locals_of source tree) text =
+    subst (λ l. Has l text) (declares source tree).locals
+    (has_said (local_text source) ms (Local at) text there refl) in
     record {
       base = [];
       digits = found.0;
@@ -95,7 +109,8 @@ local_facts source tree small at there anonymous name =
 -- a name without the mark of a default definition, whose base is declared
 plain_facts : (source : List ℕ) (tree : FunctionText) → AreSmall source tree → (m : Occurrence) (at : Span) → Has (occurrences_of tree) m
     → version_base source m ≡ turned (name_parts (text_of source at)) → plain_version source m ≡ version_in (name_parts (text_of source at))
-    → has_base (locals_of source tree) (params_of source tree) (text_of source at) (name_parts (text_of source at)) ≡ true → Has (names_in source tree) (plain at) → PlaceFacts source tree (plain at)
+    → has_base (locals_of source tree) (params_of source tree) (text_of source at) (name_parts (text_of source at))
+    ≡ true → Has (names_in source tree) (plain at) → PlaceFacts source tree (plain at)
 plain_facts source tree small m at there pairs versions declared name =
     let ms = occurrences_of tree in
     let text = text_of source at in
@@ -115,13 +130,15 @@ plain_facts source tree small m at there pairs versions declared name =
     }
 
 default_facts : (source : List ℕ) (tree : FunctionText) → AreSmall source tree → (at : Span) → Has (occurrences_of tree) (Default at)
-    → has_param (params_of source tree) (name_parts (text_of source at)) ≡ true → Has (names_in source tree) (default_at at) → PlaceFacts source tree (default_at at)
+    → has_param (params_of source tree) (name_parts (text_of source at)) ≡ true
+    → Has (names_in source tree) (default_at at) → PlaceFacts source tree (default_at at)
 default_facts source tree small at there declared name =
     let ms = occurrences_of tree in
     let text = text_of source at in
     let found = param_some (params_of source tree) (name_parts text) declared in
     let p = found.0 in
-    let param : has_param (params_of source tree) (Some (p.0, p.1)) ≡ true = subst (λ o. has_param (params_of source tree) o ≡ true) found.1 declared in
+    let param : has_param (params_of source tree) (Some (p.0, p.1)) ≡ true =
+    subst (λ o. has_param (params_of source tree) o ≡ true) found.1 declared in
     record {
       base = p.0;
       digits = p.1;
@@ -135,11 +152,14 @@ default_facts source tree small at there declared name =
       written = λ e. absurd (false≢true (sym e));
     }
 
-pub local_here : (b : Bool) (at : Span) (place : NamePlace) → option_map plain (cond b (Some at) None) ≡ Some place → (b ≡ true) × (plain at ≡ place)
+pub local_here : (b : Bool) (at : Span) (place : NamePlace) → option_map plain (cond b (Some at) None) ≡ Some place
+    → (b ≡ true) × (plain at ≡ place)
 local_here true at place e = (refl, some_is (plain at) place e)
 local_here false at place e = absurd cc
 
-occurrence_facts : (source : List ℕ) (tree : FunctionText) → KeepsNames source tree → AreSmall source tree → (o : Occurrence) (place : NamePlace) → Has (occurrences_of tree) o → name_place source o ≡ Some place → PlaceFacts source tree place
+occurrence_facts : (source : List ℕ) (tree : FunctionText) → KeepsNames source tree → AreSmall source tree
+    → (o : Occurrence) (place : NamePlace) → Has (occurrences_of tree) o → name_place source o ≡ Some place
+    → PlaceFacts source tree place
 occurrence_facts source tree kept small (Parameter at) place there e = absurd cc
 occurrence_facts source tree kept small (Block at) place there e = absurd cc
 occurrence_facts source tree kept small (Jump at) place there e = absurd cc
@@ -149,29 +169,49 @@ occurrence_facts source tree kept small (Local at) place there e =
     let name : Has (names_in source tree) (plain at) = in_names source tree (Local at) (plain at) there (e ∙ ap Some (sym p.1)) in
     subst (PlaceFacts source tree) p.1 (local_facts source tree small at there p.0 name)
 occurrence_facts source tree kept small (Assigned at) place there e =
-    let declared = all_has (is_declared source (locals_of source tree) (params_of source tree) (assigned_of source tree)) (occurrences_of tree) kept.names (Assigned at) there in
-    subst (PlaceFacts source tree) (some_is (plain at) place e) (plain_facts source tree small (Assigned at) at there refl refl declared (in_names source tree (Assigned at) (plain at) there refl))
+    let declared =
+    all_has (is_declared source (locals_of source tree) (params_of source tree) (assigned_of source tree))
+    (occurrences_of tree) kept.names (Assigned at) there in
+    subst (PlaceFacts source tree) (some_is (plain at) place e)
+    (plain_facts source tree small (Assigned at) at there refl refl declared
+    (in_names source tree (Assigned at) (plain at) there refl))
 occurrence_facts source tree kept small (Used at) place there e =
-    let declared = all_has (is_declared source (locals_of source tree) (params_of source tree) (assigned_of source tree)) (occurrences_of tree) kept.names (Used at) there in
+    let declared =
+    all_has (is_declared source (locals_of source tree) (params_of source tree) (assigned_of source tree))
+    (occurrences_of tree) kept.names (Used at) there in
     subst (PlaceFacts source tree) (some_is (plain at) place e) (plain_facts source tree small (Used at) at there refl refl
-    (and_parts (has_base (locals_of source tree) (params_of source tree) (text_of source at) (name_parts (text_of source at))) (list_any (same_text (text_of source at)) (assigned_of source tree)) declared).0
+    (and_parts (has_base (locals_of source tree) (params_of source tree) (text_of source at)
+    (name_parts (text_of source at))) (list_any (same_text (text_of source at)) (assigned_of source tree)) declared).0
     (in_names source tree (Used at) (plain at) there refl))
 occurrence_facts source tree kept small (Default at) place there e =
-    let declared = all_has (is_declared source (locals_of source tree) (params_of source tree) (assigned_of source tree)) (occurrences_of tree) kept.names (Default at) there in
-    subst (PlaceFacts source tree) (some_is (default_at at) place e) (default_facts source tree small at there declared (in_names source tree (Default at) (default_at at) there refl))
+    let declared =
+    all_has (is_declared source (locals_of source tree) (params_of source tree) (assigned_of source tree))
+    (occurrences_of tree) kept.names (Default at) there in
+    subst (PlaceFacts source tree) (some_is (default_at at) place e)
+    (default_facts source tree small at there declared (in_names source tree (Default at) (default_at at) there refl))
 
-pub place_facts : (source : List ℕ) (tree : FunctionText) → KeepsNames source tree → AreSmall source tree → (place : NamePlace) → Has (names_in source tree) place → PlaceFacts source tree place
-place_facts source tree kept small place name = let r = from_said (name_place source) (occurrences_of tree) place name in occurrence_facts source tree kept small r.0 place r.1 r.2
+pub place_facts : (source : List ℕ) (tree : FunctionText) → KeepsNames source tree → AreSmall source tree
+    → (place : NamePlace) → Has (names_in source tree) place → PlaceFacts source tree place
+place_facts source tree kept small place name = let r =
+    from_said (name_place source) (occurrences_of tree) place name in
+    occurrence_facts source tree kept small r.0 place r.1 r.2
 
 -- ---- two places of one version
 
-marks_apart : (source : List ℕ) (tree : FunctionText) → KeepsNames source tree → (p q : NamePlace) (f : PlaceFacts source tree p) (g : PlaceFacts source tree q) → f.digits ≡ g.digits → f.base ≡ g.base → p.initial ≡ true → q.initial ≡ false → ⊥
+marks_apart : (source : List ℕ) (tree : FunctionText) → KeepsNames source tree
+    → (p q : NamePlace) (f : PlaceFacts source tree p) (g : PlaceFacts source tree q) → f.digits ≡ g.digits
+    → f.base ≡ g.base → p.initial ≡ true → q.initial ≡ false → ⊥
 marks_apart source tree kept p q f g digits bases initial plain_one =
     elim (g.written plain_one) [
       | inl bare ↦ param_not_bare (params_of source tree) f.base f.digits (f.param initial) (bases ∙ bare)
       | inr written ↦
-          let one : list_any (same_text g.digits) (filter_map (plain_version source) (occurrences_of tree)) ≡ true = any_from_has (same_text g.digits) (filter_map (plain_version source) (occurrences_of tree)) g.digits written (same_text_itself g.digits) in
-          let other : list_any (same_text g.digits) (filter_map (default_version source) (occurrences_of tree)) ≡ true = any_from_has (same_text g.digits) (filter_map (default_version source) (occurrences_of tree)) g.digits (subst (λ d. Has (filter_map (default_version source) (occurrences_of tree)) d) digits (f.default initial)) (same_text_itself g.digits) in
+          let one : list_any (same_text g.digits) (filter_map (plain_version source) (occurrences_of tree)) ≡ true =
+          any_from_has (same_text g.digits) (filter_map (plain_version source) (occurrences_of tree)) g.digits written
+          (same_text_itself g.digits) in
+          let other : list_any (same_text g.digits) (filter_map (default_version source) (occurrences_of tree)) ≡ true =
+          any_from_has (same_text g.digits) (filter_map (default_version source) (occurrences_of tree)) g.digits
+          (subst (λ d. Has (filter_map (default_version source) (occurrences_of tree)) d) digits (f.default initial))
+          (same_text_itself g.digits) in
           false≢true (sym (kept.marks g.digits one) ∙ other)
     ]
 
@@ -183,23 +223,39 @@ same_mark false false h k = refl
 
 -- the row of a place
 abbrev pub row_at : (source : List ℕ) (tree : FunctionText) (place : NamePlace) → PlaceFacts source tree place → NameRow
-row_at source tree place f = record { version = number_of f.digits; base = f.base; ty = type_of_name (declarations_of source tree) place.at; initial = place.initial }
+row_at source tree place f =
+    record {
+      version = number_of f.digits;
+      base = f.base;
+      ty = type_of_name (declarations_of source tree) place.at;
+      initial = place.initial;
+    }
 
-pub rows_at_place : (source : List ℕ) (tree : FunctionText) (place : NamePlace) (f : PlaceFacts source tree place) → rows_of_place (declarations_of source tree) place ≡ row_at source tree place f ∷ []
+pub rows_at_place : (source : List ℕ) (tree : FunctionText) (place : NamePlace) (f : PlaceFacts source tree place)
+    → rows_of_place (declarations_of source tree) place ≡ row_at source tree place f ∷ []
 rows_at_place source tree place f = ap (rows_by_parts (declarations_of source tree) place) f.parts
 
-pub same_base : (source : List ℕ) (tree : FunctionText) → KeepsNames source tree → (p q : NamePlace) (f : PlaceFacts source tree p) (g : PlaceFacts source tree q) → f.digits ≡ g.digits → f.base ≡ g.base
+pub same_base : (source : List ℕ) (tree : FunctionText) → KeepsNames source tree
+    → (p q : NamePlace) (f : PlaceFacts source tree p) (g : PlaceFacts source tree q) → f.digits ≡ g.digits
+    → f.base ≡ g.base
 same_base source tree kept p q f g digits =
-    one_each (filter_map (version_base source) (occurrences_of tree)) g.digits f.base g.base kept.bases (subst (λ d. Has (filter_map (version_base source) (occurrences_of tree)) (d, f.base)) digits f.pair) g.pair
+    one_each (filter_map (version_base source) (occurrences_of tree)) g.digits f.base g.base kept.bases
+    (subst (λ d. Has (filter_map (version_base source) (occurrences_of tree)) (d, f.base)) digits f.pair) g.pair
 
-pub one_row_at : (source : List ℕ) (tree : FunctionText) → KeepsNames source tree → (p q : NamePlace) (f : PlaceFacts source tree p) (g : PlaceFacts source tree q) → number_of f.digits ≡ number_of g.digits → row_at source tree p f ≡ row_at source tree q g
+pub one_row_at : (source : List ℕ) (tree : FunctionText) → KeepsNames source tree
+    → (p q : NamePlace) (f : PlaceFacts source tree p) (g : PlaceFacts source tree q)
+    → number_of f.digits ≡ number_of g.digits → row_at source tree p f ≡ row_at source tree q g
 one_row_at source tree kept p q f g numbers =
     let known = declarations_of source tree in
     let digits : f.digits ≡ g.digits = same_number f.digits g.digits f.small g.small numbers in
     let bases = same_base source tree kept p q f g digits in
-    let texts : text_of source p.at ≡ text_of source q.at = (parts_are (text_of source p.at) f.base f.digits f.parts).0 ∙ ap (λ b. b ++ 95 ∷ f.digits) bases ∙ ap (λ d. g.base ++ 95 ∷ d) digits ∙ sym (parts_are (text_of source q.at) g.base g.digits g.parts).0 in
+    let texts : text_of source p.at ≡ text_of source q.at =
+    (parts_are (text_of source p.at) f.base f.digits f.parts).0 ∙ ap (λ b. b ++ 95 ∷ f.digits) bases
+    ∙ ap (λ d. g.base ++ 95 ∷ d) digits ∙ sym (parts_are (text_of source q.at) g.base g.digits g.parts).0 in
     let types : type_of_name known p.at ≡ type_of_name known q.at = ap (λ t. type_by_parts known t (name_parts t)) texts in
-    let marks : p.initial ≡ q.initial = same_mark p.initial q.initial (marks_apart source tree kept p q f g digits bases) (marks_apart source tree kept q p g f (sym digits) (sym bases)) in
+    let marks : p.initial ≡ q.initial =
+    same_mark p.initial q.initial (marks_apart source tree kept p q f g digits bases)
+    (marks_apart source tree kept q p g f (sym digits) (sym bases)) in
     ap (λ (v : ℕ). record { version = v; base = f.base; ty = type_of_name known p.at; initial = p.initial }) numbers
     ∙ ap (λ (b : List ℕ). record { version = number_of g.digits; base = b; ty = type_of_name known p.at; initial = p.initial }) bases
     ∙ ap (λ (t : Ty). record { version = number_of g.digits; base = g.base; ty = t; initial = p.initial }) types
@@ -207,7 +263,8 @@ one_row_at source tree kept p q f g numbers =
 
 -- ---- rows
 
-pub row_place : (source : List ℕ) (tree : FunctionText) → KeepsNames source tree → AreSmall source tree → (row : NameRow) → Has (named_rows source tree) row
+pub row_place : (source : List ℕ) (tree : FunctionText) → KeepsNames source tree → AreSmall source tree
+    → (row : NameRow) → Has (named_rows source tree) row
     → (place : NamePlace) × Has (names_in source tree) place × ((f : PlaceFacts source tree place) × (row_at source tree place f ≡ row))
 row_place source tree kept small row h =
     let known = declarations_of source tree in
@@ -218,10 +275,14 @@ row_place source tree kept small row h =
       only row only_one (inl e) = e
       only row only_one (inr h) = absurd h
 
-pub place_row : (source : List ℕ) (tree : FunctionText) (place : NamePlace) (f : PlaceFacts source tree place) → Has (names_in source tree) place → Has (named_rows source tree) (row_at source tree place f)
-place_row source tree place f name = has_flat (rows_of_place (declarations_of source tree)) (names_in source tree) place (row_at source tree place f) name (subst (λ l. Has l (row_at source tree place f)) (sym (rows_at_place source tree place f)) (inl refl))
+pub place_row : (source : List ℕ) (tree : FunctionText) (place : NamePlace) (f : PlaceFacts source tree place)
+    → Has (names_in source tree) place → Has (named_rows source tree) (row_at source tree place f)
+place_row source tree place f name =
+    has_flat (rows_of_place (declarations_of source tree)) (names_in source tree) place (row_at source tree place f)
+    name (subst (λ l. Has l (row_at source tree place f)) (sym (rows_at_place source tree place f)) (inl refl))
 
-pub rows_agree : (source : List ℕ) (tree : FunctionText) → KeepsNames source tree → AreSmall source tree → (a b : NameRow) → Has (named_rows source tree) a → Has (named_rows source tree) b → a.version ≡ b.version → a ≡ b
+pub rows_agree : (source : List ℕ) (tree : FunctionText) → KeepsNames source tree → AreSmall source tree
+    → (a b : NameRow) → Has (named_rows source tree) a → Has (named_rows source tree) b → a.version ≡ b.version → a ≡ b
 rows_agree source tree kept small a b has_a has_b versions =
     let p = row_place source tree kept small a has_a in
     let q = row_place source tree kept small b has_b in

@@ -23,11 +23,13 @@ use Rattle.gim_making.proofs.BlocksHold.{blocks}
 use Rattle.gim_making.proofs.OperandsHold.{each_fits, operands}
 use Rattle.gim_making.proofs.BoundsHold.{bounds}
 
-types_fit : (source : List ℕ) (trees : List FunctionText) → types_fault source trees ≡ None → (tree : FunctionText) → Has trees tree → first_fault (places_of_function source tree) ≡ None
+types_fit : (source : List ℕ) (trees : List FunctionText) → types_fault source trees ≡ None → (tree : FunctionText)
+    → Has trees tree → first_fault (places_of_function source tree) ≡ None
 unfolding types_fault
 types_fit source trees e tree there = each_fits source trees e tree there
 
-one : (source : List ℕ) (trees : List FunctionText) → IsSound source trees → (tree : FunctionText) → Has trees tree → (f : Function) → StandsFor source tree f → IsWellFormed f
+one : (source : List ℕ) (trees : List FunctionText) → IsSound source trees → (tree : FunctionText) → Has trees tree
+    → (f : Function) → StandsFor source tree f → IsWellFormed f
 one source trees sound tree there f stands =
     let written = each_has (IsWritten source) trees sound.written tree there in
     let kept = each_keeps source trees sound.names tree (has_contains trees tree there) in
@@ -35,7 +37,8 @@ one source trees sound tree there f stands =
     let limits = each_has (KeepsLimits source) trees (limits_kept source trees sound.limits) tree there in
     let fits = types_fit source trees sound.types tree there in
     let small = are_small source tree limits in
-    let first : ArePhisFirst tree = λ block in_tree. (each_has (BlockHolds source tree.blocks) tree.blocks shaped.blocks block in_tree).order in
+    let first : ArePhisFirst tree =
+    λ block in_tree. (each_has (BlockHolds source tree.blocks) tree.blocks shaped.blocks block in_tree).order in
     let whole : IsWellFormed (made source tree f.names) = record {
       declarations = declarations source tree f.names written kept;
       types = types source tree f.names written;
@@ -46,11 +49,17 @@ one source trees sound tree there f stands =
     } in
     subst IsWellFormed (sym stands.whole) whole
 
-each : (source : List ℕ) (trees : List FunctionText) → IsSound source trees → (some : List FunctionText) → ((tree : FunctionText) → Has some tree → Has trees tree) → (fs : List Function) → AllZip (StandsFor source) some fs → AllByRecursion IsWellFormed fs
+each : (source : List ℕ) (trees : List FunctionText) → IsSound source trees → (some : List FunctionText)
+    → ((tree : FunctionText) → Has some tree → Has trees tree) → (fs : List Function)
+    → AllZip (StandsFor source) some fs → AllByRecursion IsWellFormed fs
 each source trees sound [] among [] h = tt
 each source trees sound [] among (f ∷ fs) h = absurd h
 each source trees sound (tree ∷ some) among [] h = absurd h
-each source trees sound (tree ∷ some) among (f ∷ fs) h = (one source trees sound tree (among tree (inl refl)) f h.0, each source trees sound some (λ t there. among t (inr there)) fs h.1)
+each source trees sound (tree ∷ some) among (f ∷ fs) h = (
+  one source trees sound tree (among tree (inl refl)) f h.0,
+  each source trees sound some (λ t there. among t (inr there)) fs h.1,
+)
 
-pub sound_files : (source : List ℕ) (trees : List FunctionText) (functions : List Function) → IsSound source trees → AllZip (StandsFor source) trees functions → AllByRecursion IsWellFormed functions
+pub sound_files : (source : List ℕ) (trees : List FunctionText) (functions : List Function) → IsSound source trees
+    → AllZip (StandsFor source) trees functions → AllByRecursion IsWellFormed functions
 sound_files source trees functions sound stand = each source trees sound trees (λ tree there. there) functions stand

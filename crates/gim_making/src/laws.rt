@@ -10,5 +10,7 @@ ghost use Rattle.gim_making.specs.Standing.{StandsFor};
 
 /// The functions that stand for the trees of a file in which every rule is kept are well formed.
 pub fn sound_files_stand_for_well_formed_functions()
-    ensures { (source : List ℕ) (trees : List FunctionText) (functions : List Function) → IsSound source trees → AllZip (StandsFor source) trees functions → AllByRecursion IsWellFormed functions }
+    ensures { (source : List ℕ) (trees : List FunctionText) (functions : List Function) →
+        IsSound source trees → AllZip (StandsFor source) trees functions →
+        AllByRecursion IsWellFormed functions }
 {}

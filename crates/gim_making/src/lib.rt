@@ -1,8 +1,8 @@
 //! The functions that a GIMPLE file stands for.
 //!
-//! Trees are made into functions (`making`): the names of a function are gathered where they stand in
-//! its text (`places`) and put in order (`rows`). What they mean is looked up in the declarations of
-//! the function (`gim_typing`). It is run by the tests of gim_reader.
+//! Trees are made into functions (`making`): the names of a function are gathered where they stand
+//! in its text (`places`) and put in order (`rows`). What they mean is looked up in the
+//! declarations of the function (`gim_typing`). It is run by the tests of gim_reader.
 #![tactic(auto)]
 
 pub mod laws;

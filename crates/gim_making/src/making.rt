@@ -3,7 +3,8 @@
 ghost use Rattle.std.specs.Prelude.{◌≡◌, IfOk, map};
 ghost use Rattle.std.specs.List.{flat_map};
 ghost use Rattle.gim_making.specs.Standing.{StandsFor};
-ghost use Rattle.gim_making.specs.Trees.{arg_of, block_number, block_of, decl_of, end_of, phi_of, stmt_of};
+ghost use Rattle.gim_making.specs.Trees.{arg_of, block_number, block_of};
+ghost use Rattle.gim_making.specs.Trees.{decl_of, end_of, phi_of, stmt_of};
 ghost use Rattle.gim_typing.specs.Operands.{operand_of, rhs_of};
 
 use crate::places::names_in;

@@ -24,7 +24,8 @@ fn put_row(
     scope: &Scope,
     place: &NamePlace,
 ) -> Result<(), OutOfMemory>
-    ensures { OnOk result ((v : ℕ) → tree.get nat_cmp rows.new v ≡ option_or (tree.get nat_cmp rows.old v) (first_of v (rows_of_place scope.now place.now))) }
+    ensures { OnOk result ((v : ℕ) → tree.get nat_cmp rows.new v ≡
+        option_or (tree.get nat_cmp rows.old v) (first_of v (rows_of_place scope.now place.now))) }
 {
     if let Some((base, digits)) = name_parts(text(scope.source(), place.at)) {
         let version = number(digits);
@@ -47,7 +48,8 @@ fn gather(
     scope: &Scope,
     places: &[NamePlace],
 ) -> Result<BTreeMap<u32, NameRow>, OutOfMemory>
-    ensures { IfOk result (λ rows. (v : ℕ) → tree.get nat_cmp rows v ≡ first_of v (flat_map (rows_of_place scope.now) places.now)) }
+    ensures { IfOk result (λ rows. (v : ℕ) →
+        tree.get nat_cmp rows v ≡ first_of v (flat_map (rows_of_place scope.now) places.now)) }
 {
     let mut rows = BTreeMap::new(alloc);
     for place in places {

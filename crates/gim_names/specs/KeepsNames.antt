@@ -13,7 +13,9 @@ use Rattle.pm_places.specs.Spans.{text_of}
 use Rattle.gim_text.specs.declared.occurrence.Occurrence.{Occurrence}
 use Rattle.gim_text.specs.declared.occurrence.Occurrence.TheVariants.{Assigned, Used, Default, Constant}
 use Rattle.gim_text.specs.Occurrences.{occurrences_of_item, occurrences_of_end, occurrences_of}
-use Rattle.gim_names.specs.OccurrenceTexts.{param_text, local_text, declared_text, block_number, assigned_text, assigned_version, plain_version, default_version, version_base, base_default}
+use Rattle.gim_names.specs.OccurrenceTexts.{param_text, local_text, declared_text, block_number, assigned_text}
+use Rattle.gim_names.specs.OccurrenceTexts.{assigned_version, plain_version, default_version, version_base}
+use Rattle.gim_names.specs.OccurrenceTexts.{base_default}
 use Rattle.gim_names.specs.Tables.{have_one_each}
 
 abbrev pub ident_text : List ℕ → DeclText → List ℕ
@@ -47,7 +49,9 @@ has_param params (Some (b ∷ base, version)) = list_any (same_text (b ∷ base)
 -- what is assigned and read is a name of a declared base; what is read without `(D)` is assigned; with `(D)` the base is a parameter
 abbrev pub is_declared : List ℕ → List (List ℕ) → List (List ℕ) → List (List ℕ) → Occurrence → Bool
 is_declared source locals params assigned (Assigned at) = has_base locals params (text_of source at) (name_parts (text_of source at))
-is_declared source locals params assigned (Used at) = has_base locals params (text_of source at) (name_parts (text_of source at)) && list_any (same_text (text_of source at)) assigned
+is_declared source locals params assigned (Used at) =
+    has_base locals params (text_of source at) (name_parts (text_of source at))
+    && list_any (same_text (text_of source at)) assigned
 is_declared source locals params assigned (Default at) = has_param params (name_parts (text_of source at))
 is_declared source locals params assigned m = true
 

@@ -17,7 +17,8 @@ pub(crate) fn parts_at(source: &[u8], at: Span) -> Option<(&[u8], &[u8])>
 
 /// The version of a name.
 fn version_at(source: &[u8], at: Span) -> Option<&[u8]>
-    ensures { option_map (λ x. x.now) result ≡ texts.version_in (name_parts (text_of source.now at)) }
+    ensures { option_map (λ x. x.now) result ≡
+        texts.version_in (name_parts (text_of source.now at)) }
 {
     match parts_at(source, at) {
         Some((_, version)) => Some(version),
@@ -27,7 +28,8 @@ fn version_at(source: &[u8], at: Span) -> Option<&[u8]>
 
 /// The version and the base of a name.
 fn based_at(source: &[u8], at: Span) -> Option<(&[u8], &[u8])>
-    ensures { option_map (λ x. (x.0.now, x.1.now)) result ≡ texts.turned (name_parts (text_of source.now at)) }
+    ensures { option_map (λ x. (x.0.now, x.1.now)) result ≡
+        texts.turned (name_parts (text_of source.now at)) }
 {
     match parts_at(source, at) {
         Some((base, version)) => Some((version, base)),
@@ -37,7 +39,8 @@ fn based_at(source: &[u8], at: Span) -> Option<(&[u8], &[u8])>
 
 /// The version and the base of an anonymous name.
 fn anonymous_at(source: &[u8], at: Span) -> Option<(&[u8], &[u8])>
-    ensures { option_map (λ x. (x.0.now, x.1.now)) result ≡ texts.turned (texts.anonymous_parts (name_parts (text_of source.now at))) }
+    ensures { option_map (λ x. (x.0.now, x.1.now)) result ≡
+        texts.turned (texts.anonymous_parts (name_parts (text_of source.now at))) }
 {
     match parts_at(source, at) {
         Some((base, version)) if base.is_empty() => Some((version, base)),
@@ -130,7 +133,8 @@ pub(crate) fn version_base<'a>(
     source: &'a [u8],
     occurrence: &Occurrence,
 ) -> Option<(&'a [u8], &'a [u8])>
-    ensures { option_map (λ x. (x.0.now, x.1.now)) result ≡ texts.version_base source.now occurrence.now }
+    ensures { option_map (λ x. (x.0.now, x.1.now)) result ≡
+        texts.version_base source.now occurrence.now }
 {
     match occurrence {
         Occurrence::Local(at) => anonymous_at(source, *at),
@@ -146,7 +150,8 @@ pub(crate) fn base_default<'a>(
     source: &'a [u8],
     occurrence: &Occurrence,
 ) -> Option<(&'a [u8], &'a [u8])>
-    ensures { option_map (λ x. (x.0.now, x.1.now)) result ≡ texts.base_default source.now occurrence.now }
+    ensures { option_map (λ x. (x.0.now, x.1.now)) result ≡
+        texts.base_default source.now occurrence.now }
 {
     match occurrence {
         Occurrence::Default(at) => parts_at(source, *at),

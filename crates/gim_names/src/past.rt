@@ -50,7 +50,8 @@ impl<'a> Past<'a> {
 
     /// Notes one more occurrence.
     pub fn note(&mut self, source: &'a [u8], occurrence: &Occurrence) -> Result<(), OutOfMemory>
-        ensures { (before : List Occurrence) → Remembers source.now before self.old → OnOk result (Remembers source.now (occurrence.now ∷ before) self.new) }
+        ensures { (before : List Occurrence) → Remembers source.now before self.old →
+            OnOk result (Remembers source.now (occurrence.now ∷ before) self.new) }
     {
         put(&mut self.declared, declared_text(source, occurrence))?;
         put(&mut self.blocks, block_number(source, occurrence))?;

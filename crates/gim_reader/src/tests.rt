@@ -16,11 +16,13 @@ const READ: [&str; 5] = [
     "__BB(2): return 5;",
     "__BB(2,freq(5)): _4 = -5; return _4;",
     "__BB(2): _4 = - _Literal (int) 5; goto __BB3(likely); __BB(3): return _4;",
-    "__BB(2): if (x_1(D) < 0) goto __BB3; else goto __BB3; __BB(3): a_9 = __PHI (__BB2: x_1(D)); return a_9;",
+    "__BB(2): if (x_1(D) < 0) goto __BB3; else goto __BB3; \
+     __BB(3): a_9 = __PHI (__BB2: x_1(D)); return a_9;",
     "__BB(2): a_999999999 = 5; return 0;",
 ];
 
-/// Blocks with the kind of their first fault, and the token where it stands: faults of lexing and syntax.
+/// Blocks with the kind of their first fault, and the token where it stands: faults of lexing and
+/// syntax.
 const SYNTAX: [(&str, GimpleKind, &str); 12] = [
     (
         "__BB(2): _4 = foo (x_1(D)); return _4;",
@@ -185,7 +187,8 @@ const STAGES: [(&str, GimpleKind, &str); 4] = [
 const FILES: [(&str, usize); 2] = [
     ("", 0),
     (
-        ";; Function f (f, funcdef_no=0)\n\nint __GIMPLE (ssa,guessed_local(7))\nf (void)\n{ __BB(2): return 0; }\n",
+        ";; Function f (f, funcdef_no=0)\n\n\
+         int __GIMPLE (ssa,guessed_local(7))\nf (void)\n{ __BB(2): return 0; }\n",
         1,
     ),
 ];
@@ -218,7 +221,8 @@ const HEADS: [(&str, GimpleKind, &str); 7] = [
         "void",
     ),
     (
-        "int __GIMPLE (ssa)\nf ()\n{ __BB(2): return 0; }\nint __GIMPLE (ssa)\nf ()\n{ __BB(2): return 0; }\n",
+        "int __GIMPLE (ssa)\nf ()\n{ __BB(2): return 0; }\n\
+         int __GIMPLE (ssa)\nf ()\n{ __BB(2): return 0; }\n",
         GimpleKind::Redefined,
         "f",
     ),

@@ -35,7 +35,8 @@ read_back fs may =
         trees = r.trees;
         spelled = r.spelled;
         kept = no_rule_broken source r.trees
-            (names_sound source r.trees fs written may.distinct) (shape_sound source r.trees fs written) (types_sound source r.trees fs written)
+            (names_sound source r.trees fs written may.distinct) (shape_sound source r.trees fs written)
+            (types_sound source r.trees fs written)
             (limits_sound source r.trees fs written);
         stand = trees_stand source r.trees fs written;
       };

@@ -72,7 +72,8 @@ module _ (source : List ℕ) (tree : FunctionText) (names : List NameRow) (kept 
         blocks = omega (arith, count, limit);
         names = few_names source tree names kept (are_small source tree limits) limits are;
         versions = all_small (map version_of names) versions_small;
-        numbers = all_small (map (λ (block : Block). block.number) (map (block_of (declarations_of source tree)) tree.blocks)) numbers_small;
+        numbers = all_small (map (λ (block : Block). block.number)
+            (map (block_of (declarations_of source tree)) tree.blocks)) numbers_small;
       }
 
 name_stands : (source : List ℕ) (tree : FunctionText) (f : Function) → StandsFor source tree f → function_text source tree ≡ f.name

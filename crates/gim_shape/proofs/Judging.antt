@@ -9,7 +9,7 @@ use Rattle.gim_text.specs.declared.fault.GimpleFault.{GimpleFault}
 use Rattle.gim_text.specs.declared.fault.GimpleKind.{GimpleKind}
 use Rattle.gim_text.specs.declared.fault.GimpleKind.TheVariants.{Memory}
 use Rattle.gim_text.specs.Faults.{IsFault, Judges}
-use Rattle.pm_places.specs.FirstFaults.{first_fault, or_fault}
+use Rattle.pm_places.specs.FirstFaults.{first_fault}
 use Rattle.pm_places.proofs.FaultLemmas.{first_fault-append}
 
 pub fault_along : (kind : GimpleKind) (fault : GimpleFault) (a b : Option GimpleFault)

@@ -41,7 +41,9 @@ times_one text (t ∷ texts) distinct h = by (same_text text t) refl h (times_on
 
   by : (b : Bool) → same_text text t ≡ b → (b || is_among texts text) ≡ true
       → (is_among texts text ≡ true → times text texts ≡ 1) → times text (t ∷ texts) ≡ 1
-  by true e h further = rw e (ap suc (times_none text texts (ap (is_among texts) (same_text_is text t e) ∙ not_true (is_among texts t) d.0)))
+  by true e h further =
+      rw e (ap suc (times_none text texts (ap (is_among texts) (same_text_is text t e)
+      ∙ not_true (is_among texts t) d.0)))
   by false e h further = rw e (further h)
 
 among_from : (xs ys : List (List ℕ)) (text : List ℕ) → list_all (is_among xs) ys ≡ true → is_among ys text ≡ true → is_among xs text ≡ true

@@ -27,7 +27,8 @@ first_and_rest [] x lt is = absurd (omega arith)
 first_and_rest (y ∷ xs) x lt is = ap (λ z. z ∷ xs) (sym is) ∙ ap (λ zs. x ∷ zs) (sym (take_all (length (y ∷ xs) - 1) xs (omega arith)))
 
 -- the list from the place before on
-pub item_before : {X : Type 0} (xs : List X) (at : ℕ) (x : X) → 0 < at → at ≤ length xs → x ≡ get_or xs (at - 1) x → drop (at - 1) xs ≡ x ∷ drop at xs
+pub item_before : {X : Type 0} (xs : List X) (at : ℕ) (x : X) → 0 < at → at ≤ length xs → x ≡ get_or xs (at - 1) x
+    → drop (at - 1) xs ≡ x ∷ drop at xs
 item_before xs zero x some within is = absurd (omega arith)
 item_before xs (suc at) x some within is =
     let e : suc at - 1 ≡ at = omega arith in

@@ -1,5 +1,5 @@
 -- What filters find among what occurs in a function.
-use Rattle.std.proofs.Common.{◌≡◌, List, [], ◌∷◌, ◌++◌, map, Option, Some, None, refl, sym, ap, ◌∙◌}
+use Rattle.std.proofs.Common.{◌≡◌, List, [], ◌∷◌, ◌++◌, map, Option, Some, None, refl, ap, ◌∙◌}
 use Rattle.std.proofs.lemmas.List.{append-nil}
 use Rattle.std.proofs.lemmas.List.Elements.{filter_map-append}
 use Rattle.std.specs.List.{flat_map, filter_map, cons_option}
@@ -18,8 +18,8 @@ use Rattle.gim_text.specs.declared.occurrence.Occurrence.{Occurrence}
 use Rattle.gim_text.specs.declared.occurrence.Occurrence.TheVariants.{Parameter, Local, Block, Jump, Assigned, Used, Default, Constant}
 use Rattle.gim_text.specs.Occurrences.{occurrence_of_parameter, occurrence_of_local, occurrence_of_operand}
 use Rattle.gim_text.specs.Occurrences.{occurrences_of_argument, operands_in_right, operands_in_end, targets_in_end}
-use Rattle.gim_text.specs.Occurrences.{occurrences_of_right, occurrences_of_item, occurrences_of_end}
-use Rattle.gim_text.specs.Occurrences.{occurrences_of_block, occurrences_of, operand_at, jump_at}
+use Rattle.gim_text.specs.Occurrences.{occurrences_of_item, occurrences_of_end}
+use Rattle.gim_text.specs.Occurrences.{occurrences_of_block, occurrences_of, operand_at}
 
 -- ---- filters of lists
 

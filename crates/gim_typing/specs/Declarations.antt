@@ -23,12 +23,14 @@ declarations_of source tree = record { source = source; params = tree.params; lo
 -- the type that the first declaration of the identifier gives it
 abbrev pub declared_type : List ℕ → List ℕ → List DeclText → Option Ty
 declared_type source ident [] = None
-declared_type source ident (decl ∷ decls) = if bytes_eq ident (text_of source decl.ident) then Some decl.ty else declared_type source ident decls
+declared_type source ident (decl ∷ decls) =
+    if bytes_eq ident (text_of source decl.ident) then Some decl.ty else declared_type source ident decls
 
 -- Without a base the whole identifier is declared, as a local. Another base is that of a parameter or a local.
 abbrev pub type_by_base : Declarations → List ℕ → List ℕ → Option Ty
 type_by_base known ident [] = declared_type known.source ident known.locals
-type_by_base known ident (b ∷ base) = option_or (declared_type known.source (b ∷ base) known.params) (declared_type known.source (b ∷ base) known.locals)
+type_by_base known ident (b ∷ base) =
+    option_or (declared_type known.source (b ∷ base) known.params) (declared_type known.source (b ∷ base) known.locals)
 
 abbrev pub type_by_parts : Declarations → List ℕ → Option (List ℕ × List ℕ) → Ty
 type_by_parts known ident None = bool_type

@@ -1,5 +1,5 @@
 -- What operands and right sides of a tree stand for, by the declarations of its function.
-use Rattle.std.specs.Prelude.{List, [], ◌∷◌}
+use Rattle.std.specs.Prelude.{[], ◌∷◌}
 use Rattle.std.specs.Option.{unwrap_or}
 use Rattle.pm_ops.specs.declared.code.Code.TheVariants.{Convert, Cond}
 use Rattle.pm_wide.specs.Types.{Word, bool_type}

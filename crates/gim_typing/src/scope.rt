@@ -1,9 +1,11 @@
-//! What the names of a function mean: the types that its declarations give them, and their versions.
+//! What the names of a function mean: the types that its declarations give them, and their
+//! versions.
 
 ghost use Rattle.std.specs.Prelude.{◌≡◌, ℕ, List, [], IfOk, Option, option_map};
 ghost use Rattle.std.specs.HashMap.{get_by};
 ghost use Rattle.std.specs.Str.{bytes_eq};
-ghost use Rattle.gim_typing.specs.Declarations.{Declarations, declarations_of, declared_type, type_by_base, type_of_name, version_of_name};
+ghost use Rattle.gim_typing.specs.Declarations.{Declarations, declarations_of, declared_type};
+ghost use Rattle.gim_typing.specs.Declarations.{type_by_base, type_of_name, version_of_name};
 
 use crate::numbers::number;
 use gim_text::{DeclText, FunctionText, name_parts};
@@ -14,7 +16,8 @@ use std::alloc::Global;
 use std::collections::HashMap;
 use std::marker::Model;
 
-/// The declarations of a function, with tables in which they are looked up. Contracts see the declarations.
+/// The declarations of a function, with tables in which they are looked up. Contracts see the
+/// declarations.
 #[derive(Drop)]
 pub struct Scope<'a> {
     source: &'a [u8],
@@ -32,9 +35,16 @@ impl<'a> Model for Scope<'a> {
 
     ghost Value = { Declarations };
 
-    ghost view = { λ s. record { source = s.source.now; params = s.params.now; locals = s.locals.now } };
+    ghost view = { λ s. record {
+      source = s.source.now;
+      params = s.params.now;
+      locals = s.locals.now;
+    } };
 
-    ghost invariant = { λ s. ((q : List ℕ) → get_by (λ k. bytes_eq q k.now) s.types_of_params ≡ declared_type s.source.now q s.params.now) × ((q : List ℕ) → get_by (λ k. bytes_eq q k.now) s.types_of_locals ≡ declared_type s.source.now q s.locals.now) };
+    ghost invariant = { λ s. ((q : List ℕ) → get_by (λ k. bytes_eq q k.now) s.types_of_params ≡
+        declared_type s.source.now q s.params.now) ×
+        ((q : List ℕ) → get_by (λ k. bytes_eq q k.now) s.types_of_locals ≡
+        declared_type s.source.now q s.locals.now) };
 }
 
 /// The type that each identifier is first declared with.
@@ -43,7 +53,8 @@ fn types<'a>(
     source: &'a [u8],
     decls: &'a [DeclText],
 ) -> Result<HashMap<&'a [u8], IntType>, OutOfMemory>
-    ensures { IfOk result (λ types. (q : List ℕ) → get_by (λ k. bytes_eq q k.now) types ≡ declared_type source.now q decls.now) }
+    ensures { IfOk result (λ types. (q : List ℕ) →
+        get_by (λ k. bytes_eq q k.now) types ≡ declared_type source.now q decls.now) }
 {
     let mut types = HashMap::new(alloc);
     let mut at = decls.len();
@@ -84,7 +95,8 @@ impl<'a> Scope<'a> {
         self.source
     }
 
-    /// The declared type of a name of this base, which is the whole identifier where the base is empty.
+    /// The declared type of a name of this base, which is the whole identifier where the base is
+    /// empty.
     fn type_by_base(&self, ident: &[u8], base: &[u8]) -> Option<IntType>
         ensures { result ≡ type_by_base self.now ident.now base.now }
     {

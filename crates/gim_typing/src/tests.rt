@@ -13,7 +13,8 @@ use std::alloc::Global;
 use std::process::Abort;
 use std::test::Fail;
 
-/// The lines from which the trees of the tests are taken: the head, and statements and ends that fit or don't.
+/// The lines from which the trees of the tests are taken: the head, and statements and ends that
+/// fit or don't.
 const SOURCE: &str = "long __GIMPLE (ssa) f (int x, long y)
 {
   int _2;

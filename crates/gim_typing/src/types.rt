@@ -5,7 +5,9 @@ ghost use Rattle.std.specs.List.{flat_map};
 ghost use Rattle.gim_text.specs.Faults.{Judges};
 ghost use Rattle.pm_places.specs.FirstFaults.{first_fault};
 ghost use Rattle.gim_typing.specs.Declarations.{declarations_of};
-ghost use Rattle.gim_typing.specs.Types.{form_fits, mismatch, place_of_arg, places_of_block, places_of_end, places_of_function, places_of_item, start_of, type_of_operand, types_fault};
+ghost use Rattle.gim_typing.specs.Types.{form_fits, mismatch, place_of_arg, places_of_block};
+ghost use Rattle.gim_typing.specs.Types.{places_of_end, places_of_function, places_of_item};
+ghost use Rattle.gim_typing.specs.Types.{start_of, type_of_operand, types_fault};
 
 use crate::scope::Scope;
 use gim_text::{
@@ -140,8 +142,8 @@ fn check_function(alloc: Global, source: &[u8], tree: &FunctionText) -> Result<(
     check_blocks(&scope, tree.result, tree.blocks.as_slice())
 }
 
-/// Judges the types of functions: that right sides, arguments of phis, conditions and returned operands
-/// are well typed.
+/// Judges the types of functions: that right sides, arguments of phis, conditions and returned
+/// operands are well typed.
 ///
 /// It takes names by their declarations, so the rules on names are judged before.
 #[tactic(auto, unfolding(crate::specs::Types::types_fault))]

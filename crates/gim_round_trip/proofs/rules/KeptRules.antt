@@ -37,7 +37,8 @@ pub never_among : {X : Type 0} (broken : List X → X → Bool) (all : List X)
 never_among broken all kept = never_within broken all kept [] all (λ y there. absurd there) (λ y there. there)
 
 -- a rule that looks at none before
-pub never_each : {X : Type 0} (broken : X → Bool) (all : List X) → ((x : X) → Has all x → broken x ≡ false) → NeverBy (λ b x. broken x) [] all
+pub never_each : {X : Type 0} (broken : X → Bool) (all : List X) → ((x : X) → Has all x → broken x ≡ false)
+    → NeverBy (λ b x. broken x) [] all
 never_each broken all kept = never_among (λ b x. broken x) all (λ before x within there. kept x there)
 
 -- ---- nothing is said again

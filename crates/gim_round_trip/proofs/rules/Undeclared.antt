@@ -58,7 +58,9 @@ module _ (source : List ℕ) (tree : FunctionText) (f : Function) (w : WritesWel
       ∙ ap (λ text. lacks_base source (occurrences_of tree) text (Some (row.base, decimal row.version))) name.text
       ∙ by (base_of_row f row name.base) where
         by : HasBase f row → lacks_at source tree (decimal row.version) row.base ≡ false
-        by (bare is plain declared) = ap (lacks_at source tree (decimal row.version)) is ∙ ap not (is_local (anonymous row.version) row.ty declared)
+        by (bare is plain declared) =
+            ap (lacks_at source tree (decimal row.version)) is
+            ∙ ap not (is_local (anonymous row.version) row.ty declared)
         by (of_param b base is declared) = ap (lacks_at source tree (decimal row.version)) is
             ∙ ap not (or_right (list_any (same_text (b ∷ base)) (filter_map (local_text source) (occurrences_of tree))) _
             (is_param (b ∷ base) row.ty declared))
@@ -82,7 +84,8 @@ module _ (source : List ℕ) (tree : FunctionText) (f : Function) (w : WritesWel
       let x = any_has (λ y. y == row.version) (assigned f) stands in
       let same : text ≡ assigned_text f x.0 = name.named ∙ ap (assigned_text f) (sym (eqb-true x.0 row.version x.2)) in
       ap not (ap (list_any (same_text text)) (assigned_said source tree f w)
-      ∙ any_from_has (same_text text) (map (assigned_text f) (assigned f)) (assigned_text f x.0) (has_map (assigned_text f) (assigned f) x.0 x.1)
+      ∙ any_from_has (same_text text) (map (assigned_text f) (assigned f)) (assigned_text f x.0)
+      (has_map (assigned_text f) (assigned f) x.0 x.1)
       (ap (same_text text) (sym same) ∙ same_text_itself text))
 
   -- ---- occurrences
@@ -92,7 +95,8 @@ module _ (source : List ℕ) (tree : FunctionText) (f : Function) (w : WritesWel
 
   is_declared : (o : Occurrence) → OccurrenceIs source f o → is_undeclared source (occurrences_of tree) o ≡ false
   is_declared (Parameter at) is = bare_is_anonymous (text_of source at)
-      ∙ false_from_ne_true (is_anonymous (text_of source at)) (none_has is_anonymous (map ident_of f.params) no_param_is_bare (text_of source at) is)
+      ∙ false_from_ne_true (is_anonymous (text_of source at))
+      (none_has is_anonymous (map ident_of f.params) no_param_is_bare (text_of source at) is)
   is_declared (Assigned at) is = name_has_base at is.0 is.1
   is_declared (Used at) is = or_from (lacks_base source (occurrences_of tree) (text_of source at) (name_parts (text_of source at))) _
       (name_has_base at is.0 is.1) (name_is_assigned at is.0 is.1 is.3)

@@ -1,5 +1,6 @@
 -- The text of a name is an identifier, since no reserved word ends in an underscore and a number.
-use Rattle.std.proofs.Common.{◌≡◌, ◌⊎◌, ℕ, ◌<◌, ◌^◌, Bool, true, false, Option, Some, None, List, [], ◌∷◌, ◌++◌, map, refl, sym, ap, ◌∙◌, inl, inr, arith}
+use Rattle.std.proofs.Common.{◌≡◌, ◌⊎◌, ℕ, ◌<◌, ◌^◌, Bool, true, false, Option, Some, None}
+use Rattle.std.proofs.Common.{List, [], ◌∷◌, ◌++◌, map, refl, sym, ap, ◌∙◌, inl, inr, arith}
 use Rattle.std.specs.Prelude.{◌==◌, ◌&&◌, not, is_some}
 use Rattle.std.specs.List.{list_all, list_any}
 use Rattle.std.specs.Fmt.{decimal}
@@ -65,7 +66,8 @@ named_is_free text base ds parts =
 IsBase : List ℕ → Type 0
 IsBase base = (base ≡ []) ⊎ (is_word_text base ≡ true)
 
-versioned : (base ds : List ℕ) → list_all is_word_byte ds ≡ true → list_all is_word_byte base ≡ true → list_all is_word_byte (base ++ 95 ∷ ds) ≡ true
+versioned : (base ds : List ℕ) → list_all is_word_byte ds ≡ true → list_all is_word_byte base ≡ true
+    → list_all is_word_byte (base ++ 95 ∷ ds) ≡ true
 versioned base ds digits h = list_all-append is_word_byte base (95 ∷ ds)
     ∙ and_from (list_all is_word_byte base) (list_all is_word_byte (95 ∷ ds)) h digits
 
@@ -97,7 +99,8 @@ unfolding IsBase
 base_is_word f well row holds = by (base_of_row f row holds) where
   by : HasBase f row → (row.base ≡ []) ⊎ (is_word_text row.base ≡ true)
   by (bare is plain declared) = inl is
-  by (of_param b base is declared) = inr (ap is_word_text is ∙ base_declared f (b ∷ base) row.ty f.params well (has_left f.params f.decls) declared)
+  by (of_param b base is declared) =
+      inr (ap is_word_text is ∙ base_declared f (b ∷ base) row.ty f.params well (has_left f.params f.decls) declared)
   by (of_local b base is plain declared) = inr (ap is_word_text is
       ∙ base_declared f (b ∷ base) row.ty f.decls well (has_right f.params f.decls) declared)
 

@@ -1,5 +1,6 @@
 -- The numbers of blocks and versions are small, so that tests on them are the same tests on their decimals.
-use Rattle.std.proofs.Common.{◌≡◌, ℕ, ◌<◌, Bool, true, false, cond, List, [], ◌∷◌, ◌++◌, map, lit≤, refl, sym, ap, subst, ◌∙◌, arith, inl, inr}
+use Rattle.std.proofs.Common.{◌≡◌, ℕ, ◌<◌, Bool, true, false, cond, List, [], ◌∷◌, ◌++◌}
+use Rattle.std.proofs.Common.{map, lit≤, refl, sym, ap, subst, ◌∙◌, arith, inl, inr}
 use Rattle.std.specs.Prelude.{◌==◌, nat_lt}
 use Rattle.std.specs.List.{AllZip, list_any, list_all, flat_map}
 use Rattle.std.specs.Option.{unwrap_or}
@@ -53,7 +54,8 @@ any_decimal : (same : ℕ → Bool) (n : ℕ) (ns : List ℕ) → ((m : ℕ) →
 any_decimal same n [] each = refl
 any_decimal same n (m ∷ ns) each = rw (each m (inl refl), any_decimal same n ns (λ k there. each k (inr there))) refl
 
-pub among_decimals : (ns : List ℕ) (n : ℕ) → AreSmallNumbers ns → n < NUMBER_LIMIT → shape.is_among (map decimal ns) (decimal n) ≡ ast.is_among n ns
+pub among_decimals : (ns : List ℕ) (n : ℕ) → AreSmallNumbers ns → n < NUMBER_LIMIT
+    → shape.is_among (map decimal ns) (decimal n) ≡ ast.is_among n ns
 among_decimals ns n small one = any_decimal (λ m. m == n) n ns (λ m there. turned_small n m one (small m there))
 
 pub distinct_decimals : (ns : List ℕ) → AreSmallNumbers ns → all_distinct same_text (map decimal ns) ≡ all_distinct ◌==◌ ns
@@ -68,7 +70,10 @@ pub all_among_decimals : (wanted ns : List ℕ) → AreSmallNumbers wanted → A
     → list_all (shape.is_among (map decimal wanted)) (map decimal ns) ≡ list_all (λ n. ast.is_among n wanted) ns
 all_among_decimals wanted [] small_wanted small = refl
 all_among_decimals wanted (n ∷ ns) small_wanted small =
-    rw (among_decimals wanted n small_wanted (small n (inl refl)), all_among_decimals wanted ns small_wanted (λ m there. small m (inr there))) refl
+    rw (
+      among_decimals wanted n small_wanted (small n (inl refl)),
+      all_among_decimals wanted ns small_wanted (λ m there. small m (inr there)),
+    ) refl
 
 -- texts that are the decimals of the numbers of their partners
 pub images_are_decimals : {X Y : Type 0} (R : X → Y → Type 0) (g : X → List ℕ) (h : Y → ℕ) → ((x : X) (y : Y) → R x y → g x ≡ decimal (h y))
@@ -106,7 +111,8 @@ module _ (f : Function) (limits : IsWithinLimits f) where
     pub phi_blocks_small : (block : Block) → Has f.blocks block → (phi : Phi) → Has block.phis phi → AreSmallNumbers (phi_blocks phi)
     phi_blocks_small block there phi here n named =
         among_small (ast.predecessors f block.number) (predecessors_small block.number) n
-        (all_has (λ m. ast.is_among m (ast.predecessors f block.number)) (phi_blocks phi) (phi_rules f block there well phi here).only n named)
+        (all_has (λ m. ast.is_among m (ast.predecessors f block.number)) (phi_blocks phi)
+        (phi_rules f block there well phi here).only n named)
 
     pub jumps_small : AreSmallNumbers (jumps_of f)
     jumps_small n there =

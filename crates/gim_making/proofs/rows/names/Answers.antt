@@ -11,4 +11,5 @@ returns c =
     let rows = flat_map (rows_of_place c.args.scope.now) c.args.places.now in
     let table = c.in_ok-rows.rows in
     IfOk-weaker c.in_order.result (λ names. names ≡ tree.values table) (AreNames rows)
-    (λ names is. subst (AreNames rows) (sym is) (are_names rows table c.in_order.ensures.ordered c.in_ok-rows.ensures)) c.in_order.ensures.list
+    (λ names is. subst (AreNames rows) (sym is) (are_names rows table c.in_order.ensures.ordered c.in_ok-rows.ensures))
+    c.in_order.ensures.list

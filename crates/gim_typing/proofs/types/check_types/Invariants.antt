@@ -5,4 +5,6 @@ use Rattle.gim_typing.specs.Types.{places_of_function}
 use Rattle.gim_typing.proofs.types.check_types.Given as goal
 
 abbrev pub invariant-loop-tree : goal.invariant-loop-tree
-invariant-loop-tree l = first_fault (flat_map (places_of_function l.source) (drop l.tree-index l.functions)) ≡ first_fault (flat_map (places_of_function l.source) l.functions)
+invariant-loop-tree l =
+    first_fault (flat_map (places_of_function l.source) (drop l.tree-index l.functions))
+    ≡ first_fault (flat_map (places_of_function l.source) l.functions)
