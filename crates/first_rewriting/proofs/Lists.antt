@@ -10,7 +10,8 @@ module _ {X Y : Type 0} where
   pub first_some_append : (f : X → Option Y) (xs ys : List X) → first_some f (xs ++ ys) ≡ or_else (first_some f xs) (first_some f ys)
   first_some_append f [] ys = refl
   first_some_append f (x ∷ xs) ys =
-      elim (f x) as (λ o. or_else o (first_some f (xs ++ ys)) ≡ or_else (or_else o (first_some f xs)) (first_some f ys)) [ Some y ↦ refl | None ↦ first_some_append f xs ys ]
+      elim (f x) as (λ o. or_else o (first_some f (xs ++ ys))
+      ≡ or_else (or_else o (first_some f xs)) (first_some f ys)) [ Some y ↦ refl | None ↦ first_some_append f xs ys ]
 
 first_where_find : {X : Type 0} (p : X → Bool) (xs : List X) → first_where p xs ≡ find p xs
 first_where_find p [] = refl

@@ -3,7 +3,9 @@ use Rattle.std.proofs.Common.{◌≡◌, ◌==◌, Bool, true, false, List, [], 
 use Rattle.std.specs.Prelude.{◌&&◌, ◌||◌, not, if◌then◌else◌}
 use Rattle.pm_ops.specs.Codes.{is_commutative_code, is_comparison_code, swapped_code, same_code, code_number}
 use Rattle.pm_ops.specs.declared.code.Code.{Code}
-use Rattle.pm_ops.specs.declared.code.Code.TheVariants.{Convert, Plus, Minus, Mult, TruncDiv, TruncMod, Negate, Abs, Absu, BitAnd, BitIor, BitXor, BitNot, Lshift, Rshift, Min, Max, Eq, Ne, Lt, Le, Gt, Ge, Cond}
+use Rattle.pm_ops.specs.declared.code.Code.TheVariants.{Convert, Plus, Minus, Mult, TruncDiv, TruncMod, Negate, Abs}
+use Rattle.pm_ops.specs.declared.code.Code.TheVariants.{Absu, BitAnd, BitIor, BitXor, BitNot, Lshift, Rshift, Min, Max}
+use Rattle.pm_ops.specs.declared.code.Code.TheVariants.{Eq, Ne, Lt, Le, Gt, Ge, Cond}
 use Rattle.pm_wide.specs.Types.{Ty, Word, same_type, bool_type}
 use Rattle.pm_wide.specs.Typing.{well_typed_operation, well_typed_unary, well_typed_binary, well_typed_ternary}
 use Rattle.pm_wide.specs.Operations.{operation_value, unary_value, binary_value, ternary_value}
@@ -15,7 +17,9 @@ use Rattle.first_rewriting.proofs.Typings.{and_left, and_right, and_both, same_t
 -- ---- codes are told apart by their numbers
 
 codes_in_order : List Code
-codes_in_order = Convert ∷ Plus ∷ Minus ∷ Mult ∷ TruncDiv ∷ TruncMod ∷ Negate ∷ Abs ∷ Absu ∷ BitAnd ∷ BitIor ∷ BitXor ∷ BitNot ∷ Lshift ∷ Rshift ∷ Min ∷ Max ∷ Eq ∷ Ne ∷ Lt ∷ Le ∷ Gt ∷ Ge ∷ Cond ∷ []
+codes_in_order =
+    Convert ∷ Plus ∷ Minus ∷ Mult ∷ TruncDiv ∷ TruncMod ∷ Negate ∷ Abs ∷ Absu ∷ BitAnd ∷ BitIor ∷ BitXor ∷ BitNot
+    ∷ Lshift ∷ Rshift ∷ Min ∷ Max ∷ Eq ∷ Ne ∷ Lt ∷ Le ∷ Gt ∷ Ge ∷ Cond ∷ []
 
 numbered : (code : Code) → get_or codes_in_order (code_number code) Convert ≡ code
 unfolding codes_in_order
@@ -56,9 +60,11 @@ turned a b h = and_both b a (and_right a b h) (and_left a b h)
 compared : (t a b : Ty) → (same_type a b && same_type t bool_type) ≡ true → (same_type b a && same_type t bool_type) ≡ true
 compared t a b h =
     let same : a ≡ b = same_type_is a b (and_left (same_type a b) (same_type t bool_type) h) in
-    and_both (same_type b a) (same_type t bool_type) (subst (λ u. same_type b u ≡ true) (sym same) (same_type_refl b)) (and_right (same_type a b) (same_type t bool_type) h)
+    and_both (same_type b a) (same_type t bool_type) (subst (λ u. same_type b u ≡ true) (sym same) (same_type_refl b))
+    (and_right (same_type a b) (same_type t bool_type) h)
 
-pub exchanged_fits : (code : Code) (t a b : Ty) → (is_commutative_code code || is_comparison_code code) ≡ true → well_typed_binary code t a b ≡ true → well_typed_binary (swapped_code code) t b a ≡ true
+pub exchanged_fits : (code : Code) (t a b : Ty) → (is_commutative_code code || is_comparison_code code) ≡ true
+    → well_typed_binary code t a b ≡ true → well_typed_binary (swapped_code code) t b a ≡ true
 exchanged_fits Convert t a b may h = cc
 exchanged_fits Plus t a b may h = turned (same_type a t) (same_type b t) h
 exchanged_fits Minus t a b may h = cc
@@ -125,7 +131,8 @@ truth_type : (t : Ty) (v w : Word) (same : Bool) → v.ty ≡ bool_type → (sam
 truth_type t v w same of typed is =
     some_type v w is ∙ (of ∙ sym (same_type_is t bool_type (and_right same (same_type t bool_type) typed)))
 
-binary_type : (code : Code) (t : Ty) (a b w : Word) → well_typed_binary code t a.ty b.ty ≡ true → binary_value code t a b ≡ Some w → w.ty ≡ t
+binary_type : (code : Code) (t : Ty) (a b w : Word) → well_typed_binary code t a.ty b.ty ≡ true
+    → binary_value code t a b ≡ Some w → w.ty ≡ t
 binary_type Convert t a b w typed is = cc
 binary_type Plus t a b w typed is = choice_type _ _ w is
 binary_type Minus t a b w typed is = choice_type _ _ w is
@@ -151,7 +158,8 @@ binary_type Gt t a b w typed is = truth_type t _ w (same_type a.ty b.ty) refl ty
 binary_type Ge t a b w typed is = truth_type t _ w (same_type a.ty b.ty) refl typed is
 binary_type Cond t a b w typed is = cc
 
-ternary_type : (code : Code) (t : Ty) (a b c w : Word) → well_typed_ternary code t a.ty b.ty c.ty ≡ true → ternary_value code t a b c ≡ Some w → w.ty ≡ t
+ternary_type : (code : Code) (t : Ty) (a b c w : Word) → well_typed_ternary code t a.ty b.ty c.ty ≡ true
+    → ternary_value code t a b c ≡ Some w → w.ty ≡ t
 ternary_type Convert t a b c w typed is = cc
 ternary_type Plus t a b c w typed is = cc
 ternary_type Minus t a b c w typed is = cc
@@ -179,13 +187,18 @@ ternary_type Cond t a b c w typed is =
     let both = and_left (same_type a.ty bool_type && same_type b.ty t) (same_type c.ty t) typed in
     let b_type = same_type_is b.ty t (and_right (same_type a.ty bool_type) (same_type b.ty t) both) in
     let c_type = same_type_is c.ty t (and_right (same_type a.ty bool_type && same_type b.ty t) (same_type c.ty t) typed) in
-    (elim (a.bits == 1) as (λ d. (if d then Some b else Some c) ≡ Some w → w.ty ≡ t) [ true ↦ λ h. some_type b w h ∙ b_type | false ↦ λ h. some_type c w h ∙ c_type ]) is
+    (elim (a.bits == 1) as (λ d. (if d then Some b else Some c) ≡ Some w → w.ty ≡ t) [
+      | true ↦ λ h. some_type b w h
+          ∙ b_type
+      | false ↦ λ h. some_type c w h ∙ c_type
+    ]) is
 
 -- the type of a word
 abbrev pub word_type : Word → Ty
 word_type w = w.ty
 
-pub value_type : (code : Code) (t : Ty) (words : List Word) (w : Word) → well_typed_operation code t (map word_type words) ≡ true → operation_value code t words ≡ Some w → w.ty ≡ t
+pub value_type : (code : Code) (t : Ty) (words : List Word) (w : Word)
+    → well_typed_operation code t (map word_type words) ≡ true → operation_value code t words ≡ Some w → w.ty ≡ t
 unfolding operation_value well_typed_operation
 value_type code t [] w typed is = cc
 value_type code t (a ∷ []) w typed is = unary_type code t a w typed is
@@ -207,7 +220,9 @@ shifted : (side : Side) (t a b : Ty) → is_left side ≡ true → same_type a t
 shifted Left t a b left h = same_type_is a t h
 shifted Right t a b left h = cc
 
-pub row_type : (code : Code) (side : Side) (t a b : Ty) → (not (is_comparison_code code) && (not (is_shift_code code) || is_left side)) ≡ true → well_typed_binary code t a b ≡ true → side_type side a b ≡ t
+pub row_type : (code : Code) (side : Side) (t a b : Ty)
+    → (not (is_comparison_code code) && (not (is_shift_code code) || is_left side)) ≡ true
+    → well_typed_binary code t a b ≡ true → side_type side a b ≡ t
 row_type Convert side t a b keeps h = cc
 row_type Plus side t a b keeps h = either side t a b h
 row_type Minus side t a b keeps h = either side t a b h

@@ -37,7 +37,9 @@ by_site found = (found.0.site, found.1)
 
 -- the first row that applies at a right side
 abbrev pub row_kind : List Row → Rhs → Option rewriting.Choice
-row_kind rows rhs = option_map (λ (found : ℕ × Operand). record { what = IsRow found.0; result = AsOperand found.1 }) (found_from 0 rows rhs)
+row_kind rows rhs =
+    option_map (λ (found : ℕ × Operand). record { what = IsRow found.0; result = AsOperand found.1 })
+    (found_from 0 rows rhs)
 
 -- the first of copy, swap, fold and row at a right side of that type
 abbrev pub kind_at : List Row → Option Ty → Rhs → Option rewriting.Choice

@@ -9,4 +9,7 @@ use Rattle.first_rewriting.specs.Rewriting.{Choice, Firing, first_choice, steppe
 pub data Reaches (row_at : View → Subject → Option (ℕ × Operand)) : ℕ → Function → Function → List Firing → Bool → Type 0 where
   Done : (left : ℕ) (f : Function) → first_choice row_at f ≡ None → Reaches row_at left f f [] false
   Spent : (f : Function) (found : Subject × Choice) → first_choice row_at f ≡ Some found → Reaches row_at 0 f f [] true
-  Step : (left : ℕ) (f : Function) (found : Subject × Choice) (end : Function) (firings : List Firing) (exhausted : Bool) → first_choice row_at f ≡ Some found → Reaches row_at left (stepped row_at f found) end firings exhausted → Reaches row_at (suc left) f end (firing_of row_at f found ∷ firings) exhausted
+  Step : (left : ℕ) (f : Function) (found : Subject × Choice) (end : Function) (firings : List Firing)
+      (exhausted : Bool) → first_choice row_at f ≡ Some found
+      → Reaches row_at left (stepped row_at f found) end firings exhausted
+      → Reaches row_at (suc left) f end (firing_of row_at f found ∷ firings) exhausted

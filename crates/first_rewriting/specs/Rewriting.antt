@@ -43,7 +43,9 @@ copy_at (Op code operands) = None
 
 -- a constant before a name, under a code that may exchange them
 abbrev pub swap_operands : Code → List Operand → Option Choice
-swap_operands code (Const w ∷ Name x t ∷ []) = if is_commutative_code code || is_comparison_code code then Some (record { what = IsSwap; result = AsExchanged (swapped_code code) (Name x t) (Const w) }) else None
+swap_operands code (Const w ∷ Name x t ∷ []) =
+    if is_commutative_code code || is_comparison_code code then Some
+    (record { what = IsSwap; result = AsExchanged (swapped_code code) (Name x t) (Const w) }) else None
 swap_operands code operands = None
 
 abbrev pub swap_at : Rhs → Option Choice
@@ -58,7 +60,9 @@ words_of (Name x t ∷ operands) = None
 
 -- an operation on constants that has a value
 abbrev pub fold_at : Option Ty → Rhs → Option Choice
-fold_at (Some t) (Op code operands) = option_map (λ w. record { what = IsFold; result = AsOperand (Const w) }) (option_and_then (operation_value code t) (words_of operands))
+fold_at (Some t) (Op code operands) =
+    option_map (λ w. record { what = IsFold; result = AsOperand (Const w) })
+    (option_and_then (operation_value code t) (words_of operands))
 fold_at _ _ = None
 
 -- the first that is there
@@ -126,7 +130,9 @@ module _ (row_at : View → Subject → Option (ℕ × Operand)) where
 
   -- a condition that would stay the same has no choice
   abbrev pub choice_at : View → Subject → Option Choice
-  choice_at view s = option_and_then (λ (c : Choice). if is_condition s.site && gives_same_condition c.result s.rhs then None else Some c) (first_kind view s)
+  choice_at view s =
+      option_and_then (λ (c : Choice). if is_condition s.site
+      && gives_same_condition c.result s.rhs then None else Some c) (first_kind view s)
 
   -- the first subject in program order that has a choice, and that choice
   unfoldable pub first_choice : Function → Option (Subject × Choice)
@@ -144,7 +150,9 @@ module _ (row_at : View → Subject → Option (ℕ × Operand)) where
   -- at most so many steps
   unfoldable pub rewritten_by : ℕ → Function → Rewritten
   rewritten_by zero f = record { function = f; firings = []; exhausted = is_some (first_choice f) }
-  rewritten_by (suc n) f = option_map_or (λ found. with_firing (firing_of f found) (rewritten_by n (stepped f found))) (first_choice f) (record { function = f; firings = []; exhausted = false })
+  rewritten_by (suc n) f =
+      option_map_or (λ found. with_firing (firing_of f found) (rewritten_by n (stepped f found))) (first_choice f)
+      (record { function = f; firings = []; exhausted = false })
 
   -- what is unused goes first; then come the steps
   abbrev pub rewriting_of : ℕ → Function → Rewritten

@@ -6,10 +6,13 @@ ghost use Rattle.pm_wide.specs.Typing.{well_typed_operation};
 ghost use Rattle.pm_wide.specs.Operations.{operation_value};
 ghost use Rattle.gim_ast.specs.declared.function.Rhs.TheVariants.{Op};
 ghost use Rattle.first_patterns.specs.Subjects.{subjects, subjects_of_end, subjects_of_block};
-ghost use Rattle.first_rewriting.specs.Rewriting.{bool_zero as zero_operand, words_of, swap_at, fold_at, first_choice, gives_same_condition};
+ghost use Rattle.first_rewriting.specs.Rewriting.{bool_zero as zero_operand, words_of, swap_at};
+ghost use Rattle.first_rewriting.specs.Rewriting.{fold_at, first_choice, gives_same_condition};
 ghost use Rattle.gim_ast.specs.WellFormed.{type_of};
 ghost use Rattle.first_patterns.specs.Matching.{row_at};
-ghost use Rattle.first_rewriting.specs.Choices.{EachFolds, choice_of, found_of, by_site, first_found, kind_at, result_of, row_kind, stmt_subjects};
+ghost use Rattle.first_rewriting.specs.Choices.{EachFolds, choice_of, found_of, by_site};
+ghost use Rattle.first_rewriting.specs.Choices.{first_found, kind_at, result_of, row_kind};
+ghost use Rattle.first_rewriting.specs.Choices.{stmt_subjects};
 
 use crate::firing::{Site, What};
 use crate::lookup::name_type;
@@ -19,7 +22,8 @@ use gim_ast::{Block, End, Function, Rhs, Stmt};
 use pm_ops::Code;
 use pm_wide::{IntType, Operand, Wide, op_value};
 
-/// What comes in the place of a right side: an operand for each use of its name, or the operation with its operands exchanged.
+/// What comes in the place of a right side: an operand for each use of its name, or the operation
+/// with its operands exchanged.
 #[derive(Clone, Copy)]
 pub(crate) enum Outcome {
     Operand(Operand),
@@ -98,8 +102,10 @@ fn binary_value(code: Code, ty: IntType, a: &Operand, b: &Operand) -> Option<Wid
 }
 
 fn ternary_value(code: Code, ty: IntType, a: &Operand, b: &Operand, c: &Operand) -> Option<Wide>
-    requires { IsTrue (well_typed_operation code ty (type_of a.now ∷ type_of b.now ∷ type_of c.now ∷ [])) }
-    ensures { result ≡ option_and_then (operation_value code ty) (words_of (a.now ∷ b.now ∷ c.now ∷ [])) }
+    requires { IsTrue (well_typed_operation code ty
+        (type_of a.now ∷ type_of b.now ∷ type_of c.now ∷ [])) }
+    ensures { result ≡ option_and_then (operation_value code ty)
+        (words_of (a.now ∷ b.now ∷ c.now ∷ [])) }
 {
     match (a, b, c) {
         (Operand::Const(a), Operand::Const(b), Operand::Const(c)) => op_value(
@@ -145,7 +151,8 @@ fn operation_choice(
     operands: &[Operand],
 ) -> Option<Choice>
     requires few { length rows.now < 2 ^ 32 }
-    requires typed { ForSome ty (λ t. IsTrue (well_typed_operation code t (map type_of operands.now))) }
+    requires typed { ForSome ty (λ t. IsTrue (well_typed_operation code t
+        (map type_of operands.now))) }
     ensures { option_map choice_of result ≡ kind_at rows.now ty (Op code operands.now) }
 {
     if let Some(choice) = exchanged(code, operands) {
@@ -161,7 +168,8 @@ fn operation_choice(
 fn stmt_choice(rows: &[Row], function: &Function, stmt: &Stmt) -> Option<Found>
     requires few { length rows.now < 2 ^ 32 }
     requires typed { EachFolds function.now (stmt_subjects stmt.now) }
-    ensures { option_map found_of result ≡ first_found rows.now function.now (stmt_subjects stmt.now) }
+    ensures { option_map found_of result ≡
+        first_found rows.now function.now (stmt_subjects stmt.now) }
 {
     let site = Site::Stmt(stmt.name);
     match &stmt.rhs {
@@ -184,7 +192,8 @@ fn stmt_choice(rows: &[Row], function: &Function, stmt: &Stmt) -> Option<Found>
 fn end_choice(rows: &[Row], function: &Function, number: u32, end: &End) -> Option<Found>
     requires few { length rows.now < 2 ^ 32 }
     requires typed { EachFolds function.now (subjects_of_end number end.now) }
-    ensures { option_map found_of result ≡ first_found rows.now function.now (subjects_of_end number end.now) }
+    ensures { option_map found_of result ≡
+        first_found rows.now function.now (subjects_of_end number end.now) }
 {
     match end {
         End::If(code, left, right, _, _) => {
@@ -202,9 +211,11 @@ fn end_choice(rows: &[Row], function: &Function, number: u32, end: &End) -> Opti
     }
 }
 
-/// Whether the outcome would make the same condition again: an operand that is compared with the `_Bool` 0 already.
+/// Whether the outcome would make the same condition again: an operand that is compared with the
+/// `_Bool` 0 already.
 fn stays(outcome: &Outcome, code: Code, left: &Operand, right: &Operand) -> bool
-    ensures { result ≡ gives_same_condition (result_of outcome.now) (Op code (left.now ∷ right.now ∷ [])) }
+    ensures { result ≡ gives_same_condition (result_of outcome.now)
+        (Op code (left.now ∷ right.now ∷ [])) }
 {
     match outcome {
         Outcome::Operand(a) => code.same(Code::Ne)
@@ -226,7 +237,8 @@ pub(crate) fn bool_zero() -> Operand
 pub(crate) fn next(rows: &[Row], function: &Function) -> Option<Found>
     requires few { length rows.now < 2 ^ 32 }
     requires typed { EachFolds function.now (subjects function.now) }
-    ensures { option_map found_of result ≡ option_map by_site (first_choice (row_at rows.now) function.now) }
+    ensures { option_map found_of result ≡
+        option_map by_site (first_choice (row_at rows.now) function.now) }
 {
     next_among(rows, function, function.blocks.as_slice())
 }
@@ -234,7 +246,8 @@ pub(crate) fn next(rows: &[Row], function: &Function) -> Option<Found>
 fn next_among(rows: &[Row], function: &Function, blocks: &[Block]) -> Option<Found>
     requires few { length rows.now < 2 ^ 32 }
     requires typed { EachFolds function.now (flat_map subjects_of_block blocks.now) }
-    ensures { option_map found_of result ≡ first_found rows.now function.now (flat_map subjects_of_block blocks.now) }
+    ensures { option_map found_of result ≡
+        first_found rows.now function.now (flat_map subjects_of_block blocks.now) }
 {
     for block in blocks {
         if let Some(found) = next_in_block(rows, function, block) {
@@ -248,7 +261,8 @@ fn next_among(rows: &[Row], function: &Function, blocks: &[Block]) -> Option<Fou
 fn next_in_block(rows: &[Row], function: &Function, block: &Block) -> Option<Found>
     requires few { length rows.now < 2 ^ 32 }
     requires typed { EachFolds function.now (subjects_of_block block.now) }
-    ensures { option_map found_of result ≡ first_found rows.now function.now (subjects_of_block block.now) }
+    ensures { option_map found_of result ≡
+        first_found rows.now function.now (subjects_of_block block.now) }
 {
     if let Some(found) = next_stmt(rows, function, block.stmts.as_slice()) {
         return Some(found);
@@ -259,7 +273,8 @@ fn next_in_block(rows: &[Row], function: &Function, block: &Block) -> Option<Fou
 fn next_stmt(rows: &[Row], function: &Function, stmts: &[Stmt]) -> Option<Found>
     requires few { length rows.now < 2 ^ 32 }
     requires typed { EachFolds function.now (flat_map stmt_subjects stmts.now) }
-    ensures { option_map found_of result ≡ first_found rows.now function.now (flat_map stmt_subjects stmts.now) }
+    ensures { option_map found_of result ≡
+        first_found rows.now function.now (flat_map stmt_subjects stmts.now) }
 {
     for stmt in stmts {
         if let Some(found) = stmt_choice(rows, function, stmt) {

@@ -1,14 +1,15 @@
 use pm_ops::Text;
 
-/// Where a step is made: at the statement of a name, by the name's version, or at the condition of a block, by the block's number.
+/// Where a step is made: at the statement of a name, by the name's version, or at the condition of
+/// a block, by the block's number.
 #[derive(Clone, Copy, Debug, PartialEq, Eq)]
 pub enum Site {
     Stmt(u32),
     Cond(u32),
 }
 
-/// Why a step is made: the right side is an operand, a constant stands before a name, all operands are constants, or the row of
-/// that number applies. Rows are numbered from 1.
+/// Why a step is made: the right side is an operand, a constant stands before a name, all operands
+/// are constants, or the row of that number applies. Rows are numbered from 1.
 #[derive(Clone, Copy, Debug, PartialEq, Eq)]
 pub enum What {
     Copy,
@@ -21,7 +22,8 @@ pub enum What {
 #[derive(Drop)]
 pub struct Firing {
     pub subject: Site,
-    /// The base of the assigned name as it stood before the step. It is empty for an anonymous name and at a condition.
+    /// The base of the assigned name as it stood before the step. It is empty for an anonymous name
+    /// and at a condition.
     pub base: Text,
     pub what: What,
 }

@@ -1,7 +1,8 @@
 //! The rewriting of functions by rows of captures.
 //!
-//! What is unused goes first. Then, at the first subject that has a choice, a step carries it out, again and again, until no
-//! subject has one or the budget is spent. Each step begins again at the first subject and tries the rows one after another.
+//! What is unused goes first. Then, at the first subject that has a choice, a step carries it out,
+//! again and again, until no subject has one or the budget is spent. Each step begins again at the
+//! first subject and tries the rows one after another.
 #![tactic(auto)]
 
 mod choice;

@@ -27,9 +27,9 @@ pub struct Simplified {
 
 /// Rewrites a function by the rows, by at most `budget` steps. First what is unused goes.
 ///
-/// Each step is the first choice at the first subject in program order that has one: a copy, a swap, a fold or the first row that
-/// applies. The function is typed, as each well-formed one is, and the rows keep types. The one error is want of memory, after
-/// which the function is gone.
+/// Each step is the first choice at the first subject in program order that has one: a copy, a
+/// swap, a fold or the first row that applies. The function is typed, as each well-formed one is,
+/// and the rows keep types. The one error is want of memory, after which the function is gone.
 pub fn simplify(
     alloc: Global,
     rows: &[Row],
@@ -39,7 +39,8 @@ pub fn simplify(
     requires few { length rows.now < 2 ^ 32 }
     requires keep { KeepTypes rows.now }
     requires typed { IsTyped function }
-    ensures { IfOk result (λ done. rewritten done ≡ rewriting_of (row_at rows.now) budget function) }
+    ensures { IfOk result (λ done. rewritten done ≡
+        rewriting_of (row_at rows.now) budget function) }
 {
     let mut function = function;
     tidy(&mut function);

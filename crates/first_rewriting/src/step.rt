@@ -19,7 +19,11 @@ pub(crate) fn firing_at(
     function: &Function,
     found: &Found,
 ) -> Result<Firing, OutOfMemory>
-    ensures { IfOk result (λ firing. firing ≡ record { subject = found.now.site; base = base_at function.now (site_of found.now.site); what = found.now.choice.what }) }
+    ensures { IfOk result (λ firing. firing ≡ record {
+      subject = found.now.site;
+      base = base_at function.now (site_of found.now.site);
+      what = found.now.choice.what;
+    }) }
 {
     Ok(Firing {
         subject: found.site,
@@ -28,7 +32,8 @@ pub(crate) fn firing_at(
     })
 }
 
-/// The base of the name that a statement assigns. It is empty for an anonymous name, and at a condition.
+/// The base of the name that a statement assigns. It is empty for an anonymous name, and at a
+/// condition.
 fn base_of(alloc: Global, function: &Function, site: &Site) -> Result<Text, OutOfMemory>
     ensures { IfOk result (λ base. base ≡ base_at function.now (site_of site.now)) }
 {
@@ -43,7 +48,8 @@ fn base_of(alloc: Global, function: &Function, site: &Site) -> Result<Text, OutO
 
 /// Carries a choice out, and removes what is unused then.
 pub(crate) fn carry_out(alloc: Global, function: &mut Function, found: &Found)
-    ensures { function.new ≡ tidied (changed (site_of found.now.site) (result_of found.now.choice.outcome) function.old) }
+    ensures { function.new ≡ tidied (changed (site_of found.now.site)
+        (result_of found.now.choice.outcome) function.old) }
 {
     change(alloc, function, &found.site, &found.choice.outcome);
     tidy(function);

@@ -45,7 +45,8 @@ fn assigned(alloc: Global, version: u32, code: Code, left: &Operand, right: &Ope
     }
 }
 
-/// These rows of `names` and one more: the default definition of `x` where there is a base, and else an anonymous name.
+/// These rows of `names` and one more: the default definition of `x` where there is a base, and
+/// else an anonymous name.
 fn with_row(
     alloc: Global,
     rows: Items<NameRow>,
@@ -68,7 +69,8 @@ fn with_row(
 /// The two statements, and a return of `_3`.
 fn blocks(alloc: Global, first: Stmt, second: Stmt) -> Result<Items<Block>, OutOfMemory>
     requires { IsTrue (list_all (stmt_agrees (λ x. unsigned_int_type)) (first ∷ second ∷ [])) }
-    ensures { IfOk result (λ blocks. IsTrue (list_all (block_agrees (λ x. unsigned_int_type)) blocks)) }
+    ensures { IfOk result (λ blocks. IsTrue
+        (list_all (block_agrees (λ x. unsigned_int_type)) blocks)) }
 {
     let mut stmts = Items::new(alloc);
     stmts.push(first)?;

@@ -1,3 +1,4 @@
-pub mod LimitLemmas
+pub mod Counting
 pub mod LimitsKept
-pub mod DifferentLemmas
+pub mod ChosenTexts
+pub mod DifferentTexts

@@ -1,5 +1,6 @@
 -- What limits functions without a fault keep.
-use Rattle.std.proofs.Common.{◌≡◌, ◌≤◌, ℕ, suc, Bool, true, false, List, [], ◌∷◌, ◌++◌, length, Option, Some, None, IsSome, IsTrue, append-nil, refl, sym, ap, subst, ◌∙◌, arith}
+use Rattle.std.proofs.Common.{◌≡◌, ◌≤◌, ℕ, suc, Bool, true, false, List, [], ◌∷◌, ◌++◌, length, Option}
+use Rattle.std.proofs.Common.{Some, None, IsSome, IsTrue, append-nil, refl, sym, ap, subst, ◌∙◌, arith}
 use Rattle.std.specs.Prelude.{not, ◌&&◌, ◌||◌, ◌==◌, if◌then◌else◌}
 use Rattle.std.specs.List.{AllByRecursion, filter_map, cons_option}
 use Rattle.std.proofs.lemmas.List.{length-append, length-map}
@@ -7,6 +8,8 @@ use Rattle.std.proofs.lemmas.List.Elements.{filter_map-append}
 use Rattle.std.proofs.lemmas.Bool.{eq-eqb, or_parts}
 use Rattle.lexing.specs.Numbers.{is_number_text, number_below}
 use Rattle.gim_ast.specs.WellFormed.{same_text}
+use Rattle.gim_text.proofs.SameTexts.{same_text_symm, same_text_is}
+use Rattle.gim_text.specs.declared.limits.TheConstants.{BLOCK_LIMIT, NAME_LIMIT, NUMBER_LIMIT}
 use Rattle.gim_text.specs.declared.fault.GimpleFault.{GimpleFault}
 use Rattle.gim_text.specs.declared.fault.GimpleKind.TheVariants.{TooLarge}
 use Rattle.pm_places.specs.declared.span.Span.{Span}
@@ -18,17 +21,18 @@ use Rattle.pm_places.specs.FirstFaults.{first_fault}
 use Rattle.gim_text.specs.Occurrences.{place_of, block_at, occurrences_of}
 use Rattle.gim_text.proofs.OccurrenceLemmas.{each_says, none_says, said_at_heads}
 use Rattle.gim_shape.specs.Blocks.{is_among}
-use Rattle.gim_limits.specs.Limits.{digits_at, is_any_above, blocks_among, version_at, versions_of, different, is_name_too_many, is_block_too_many, is_too_large, large_faults, function_limit_faults, limits_fault}
-use Rattle.gim_shape.proofs.TableLemmas.{same_text_symm, same_is}
-use Rattle.gim_shape.proofs.JudgingLemmas.{none_first, none_of_all}
-use Rattle.gim_limits.specs.Kept.{NumberFits, KeepsLimits}
+use Rattle.gim_limits.specs.Limits.{digits_at, is_any_above, blocks_among, version_at, versions_of, different}
+use Rattle.gim_limits.specs.Limits.{is_name_too_many, is_block_too_many, is_too_large, large_faults}
+use Rattle.gim_limits.specs.Limits.{function_limit_faults, limits_fault}
+use Rattle.gim_shape.proofs.Judging.{none_first, none_of_all}
+use Rattle.gim_limits.specs.KeepsLimits.{NumberFits, KeepsLimits}
 
 -- ---- different texts, in any order
 
 swap : (x y : List ℕ) (zs : List (List ℕ)) → different (x ∷ y ∷ zs) ≡ different (y ∷ x ∷ zs)
 swap x y zs = by (same_text x y) (is_among zs x) (is_among zs y) refl refl refl where
   by : (s a b : Bool) → same_text x y ≡ s → is_among zs x ≡ a → is_among zs y ≡ b → different (x ∷ y ∷ zs) ≡ different (y ∷ x ∷ zs)
-  by true a b e f g = ap (λ t. different (t ∷ y ∷ zs)) (same_is x y e) ∙ ap (λ t. different (y ∷ t ∷ zs)) (sym (same_is x y e))
+  by true a b e f g = ap (λ t. different (t ∷ y ∷ zs)) (same_text_is x y e) ∙ ap (λ t. different (y ∷ t ∷ zs)) (sym (same_text_is x y e))
   by false true true e f g = rw (sym (same_text_symm x y) ∙ e, e, f, g) refl
   by false true false e f g = rw (sym (same_text_symm x y) ∙ e, e, f, g) refl
   by false false true e f g = rw (sym (same_text_symm x y) ∙ e, e, f, g) refl
@@ -42,7 +46,9 @@ any_way false false c = refl
 
 among_middle : (xs ys : List (List ℕ)) (y q : List ℕ) → is_among (xs ++ y ∷ ys) q ≡ is_among (y ∷ (xs ++ ys)) q
 among_middle [] ys y q = refl
-among_middle (x ∷ xs) ys y q = ap (λ b. same_text q x || b) (among_middle xs ys y q) ∙ any_way (same_text q x) (same_text q y) (is_among (xs ++ ys) q)
+among_middle (x ∷ xs) ys y q =
+    ap (λ b. same_text q x || b) (among_middle xs ys y q)
+    ∙ any_way (same_text q x) (same_text q y) (is_among (xs ++ ys) q)
 
 different_middle : (xs ys : List (List ℕ)) (y : List ℕ) → different (xs ++ y ∷ ys) ≡ different (y ∷ (xs ++ ys))
 different_middle [] ys y = refl
@@ -66,21 +72,24 @@ blocks_middle xs ys (Some at) = let whole = length-append xs ys in length-append
 below : (n limit : ℕ) → (n == limit) ≡ false → n ≤ limit → suc n ≤ limit
 below n limit other le = let apart : n ≡ limit → ⊥ = λ e. let same = eq-eqb n limit e in cc in omega arith
 
-blocks_stay : (blocks : List Span) (o : Option Span) → is_block_too_many (length blocks) o ≡ false → length blocks ≤ 2000 → length (cons_option o blocks) ≤ 2000
+blocks_stay : (blocks : List Span) (o : Option Span) → is_block_too_many (length blocks) o ≡ false
+    → length blocks ≤ BLOCK_LIMIT → length (cons_option o blocks) ≤ BLOCK_LIMIT
 blocks_stay blocks None h le = le
-blocks_stay blocks (Some at) h le = below (length blocks) 2000 h le
+blocks_stay blocks (Some at) h le = below (length blocks) BLOCK_LIMIT h le
 
-names_stay : (versions : List (List ℕ)) (o : Option (List ℕ)) → is_name_too_many versions o ≡ false → different versions ≤ 20000 → different (cons_option o versions) ≤ 20000
+names_stay : (versions : List (List ℕ)) (o : Option (List ℕ)) → is_name_too_many versions o ≡ false
+    → different versions ≤ NAME_LIMIT → different (cons_option o versions) ≤ NAME_LIMIT
 names_stay versions None h le = le
 names_stay versions (Some version) h le = by (is_among versions version) refl h where
-  by : (b : Bool) → is_among versions version ≡ b → (not b && (different versions == 20000)) ≡ false → different (version ∷ versions) ≤ 20000
+  by : (b : Bool) → is_among versions version ≡ b → (not b && (different versions == NAME_LIMIT)) ≡ false
+      → different (version ∷ versions) ≤ NAME_LIMIT
   by true e room = rw e le
-  by false e room = rw e (below (different versions) 20000 room le)
+  by false e room = rw e (below (different versions) NAME_LIMIT room le)
 
 number_fits : (digits : Option (List ℕ)) → is_any_above digits ≡ false → NumberFits digits
 number_fits None h = tt
-number_fits (Some digits) h = λ number. by number (number_below 1000000000 digits) refl where
-  by : IsTrue (is_number_text digits) → (n : Option ℕ) → number_below 1000000000 digits ≡ n → IsSome (number_below 1000000000 digits)
+number_fits (Some digits) h = λ number. by number (number_below NUMBER_LIMIT digits) refl where
+  by : IsTrue (is_number_text digits) → (n : Option ℕ) → number_below NUMBER_LIMIT digits ≡ n → IsSome (number_below NUMBER_LIMIT digits)
   by number None e = let no = rw (number, e) at h in absurd cc
   by number (Some n) e = rw e refl
 
@@ -94,35 +103,44 @@ free true fault h = absurd cc
 free false fault h = refl
 
 -- the first fits, and the others are without a fault
-first_fits : (source : List ℕ) (before : List Occurrence) (o : Occurrence) (os : List Occurrence) → first_fault (large_faults source before (o ∷ os)) ≡ None
+first_fits : (source : List ℕ) (before : List Occurrence) (o : Occurrence) (os : List Occurrence)
+    → first_fault (large_faults source before (o ∷ os)) ≡ None
     → Fits source before o × (first_fault (large_faults source (o ∷ before) os) ≡ None)
 first_fits source before o os none =
-    let parts = none_first (if is_too_large source before o then Some (fault_at TooLarge (place_of o)) else None) (large_faults source (o ∷ before) os) none in
+    let parts =
+    none_first (if is_too_large source before o then Some (fault_at TooLarge (place_of o)) else None)
+    (large_faults source (o ∷ before) os) none in
     let name = is_name_too_many (versions_of source before) (version_at source o) in
     let block = is_block_too_many (blocks_among before) (block_at o) in
-    let p = or_parts (is_any_above (digits_at source o)) (name || block) (free (is_too_large source before o) (fault_at TooLarge (place_of o)) parts.0) in
+    let p = or_parts (is_any_above (digits_at source o)) (name || block)
+    (free (is_too_large source before o) (fault_at TooLarge (place_of o)) parts.0) in
     let q = or_parts name block p.1 in
     (record { number = p.0; name = q.0; block = q.1 }, parts.1)
 
 -- ---- all that occurs
 
-numbers_fit : (source : List ℕ) (before os : List Occurrence) → first_fault (large_faults source before os) ≡ None → AllByRecursion (λ o. NumberFits (digits_at source o)) os
+numbers_fit : (source : List ℕ) (before os : List Occurrence) → first_fault (large_faults source before os) ≡ None
+    → AllByRecursion (λ o. NumberFits (digits_at source o)) os
 numbers_fit source before [] none = tt
 numbers_fit source before (o ∷ os) none =
     let p = first_fits source before o os none in
     (number_fits (digits_at source o) p.0.number, numbers_fit source (o ∷ before) os p.1)
 
-few_blocks : (source : List ℕ) (before os : List Occurrence) → first_fault (large_faults source before os) ≡ None → blocks_among before ≤ 2000 → blocks_among (os ++ before) ≤ 2000
+few_blocks : (source : List ℕ) (before os : List Occurrence) → first_fault (large_faults source before os) ≡ None
+    → blocks_among before ≤ BLOCK_LIMIT → blocks_among (os ++ before) ≤ BLOCK_LIMIT
 few_blocks source before [] none le = le
 few_blocks source before (o ∷ os) none le =
     let p = first_fits source before o os none in
     let same : blocks_among (os ++ o ∷ before) ≡ blocks_among (o ∷ (os ++ before)) =
-    ap length (filter_map-append block_at os (o ∷ before)) ∙ blocks_middle (filter_map block_at os) (filter_map block_at before) (block_at o)
+    ap length (filter_map-append block_at os (o ∷ before))
+    ∙ blocks_middle (filter_map block_at os) (filter_map block_at before) (block_at o)
     ∙ ap (λ xs. length (cons_option (block_at o) xs)) (sym (filter_map-append block_at os before)) in
-    subst (λ n. n ≤ 2000) same (few_blocks source (o ∷ before) os p.1 (blocks_stay (filter_map block_at before) (block_at o) p.0.block le))
+    subst (λ n. n ≤ BLOCK_LIMIT) same (few_blocks source (o ∷ before) os p.1
+    (blocks_stay (filter_map block_at before) (block_at o) p.0.block le))
 
-few_names : (source : List ℕ) (before os : List Occurrence) → first_fault (large_faults source before os) ≡ None → different (versions_of source before) ≤ 20000
-    → different (versions_of source (os ++ before)) ≤ 20000
+few_names : (source : List ℕ) (before os : List Occurrence) → first_fault (large_faults source before os) ≡ None
+    → different (versions_of source before) ≤ NAME_LIMIT
+    → different (versions_of source (os ++ before)) ≤ NAME_LIMIT
 few_names source before [] none le = le
 few_names source before (o ∷ os) none le =
     let p = first_fits source before o os none in
@@ -130,7 +148,7 @@ few_names source before (o ∷ os) none le =
     let same : different (versions_of source (os ++ o ∷ before)) ≡ different (versions_of source (o ∷ (os ++ before))) =
     ap different (filter_map-append says os (o ∷ before)) ∙ versions_middle (filter_map says os) (filter_map says before) (says o)
     ∙ ap (λ xs. different (cons_option (says o) xs)) (sym (filter_map-append says os before)) in
-    subst (λ n. n ≤ 20000) same (few_names source (o ∷ before) os p.1 (names_stay (versions_of source before) (says o) p.0.name le))
+    subst (λ n. n ≤ NAME_LIMIT) same (few_names source (o ∷ before) os p.1 (names_stay (versions_of source before) (says o) p.0.name le))
 
 -- ---- functions
 
@@ -139,21 +157,32 @@ number_place block = block.number
 
 all_blocks : (function : FunctionText) → blocks_among (occurrences_of function) ≡ length function.blocks
 all_blocks function =
-    let heads = said_at_heads block_at (record { jump = λ at. refl; assigned = λ at. refl; used = λ at. refl; initial = λ at. refl; constant = λ literal. refl }) function in
-    ap length (heads ∙ three (none_says function.params) (none_says function.decls) (each_says number_place function.blocks)) ∙ length-map function.blocks number_place where
+    let heads =
+    said_at_heads block_at (record {
+      jump = λ at. refl;
+      assigned = λ at. refl;
+      used = λ at. refl;
+      initial =
+          λ at. refl;
+      constant = λ literal. refl;
+    }) function in
+    ap length (heads ∙ three (none_says function.params) (none_says function.decls)
+    (each_says number_place function.blocks)) ∙ length-map function.blocks number_place where
       three : {us vs ws zs : List Span} → us ≡ [] → vs ≡ [] → ws ≡ zs → (us ++ vs) ++ ws ≡ zs
       three p q r = rw (p, q) r
 
-function_keeps : (source : List ℕ) (function : FunctionText) → first_fault (function_limit_faults source function) ≡ None → KeepsLimits source function
+function_keeps : (source : List ℕ) (function : FunctionText)
+    → first_fault (function_limit_faults source function) ≡ None → KeepsLimits source function
 function_keeps source function none =
     let os = occurrences_of function in
     let all : os ++ [] ≡ os = append-nil os in
     record {
-      blocks = subst (λ n. n ≤ 2000) (ap blocks_among all ∙ all_blocks function) (few_blocks source [] os none (omega arith));
-      names = subst (λ xs. different (versions_of source xs) ≤ 20000) all (few_names source [] os none (omega arith));
+      blocks = subst (λ n. n ≤ BLOCK_LIMIT) (ap blocks_among all ∙ all_blocks function) (few_blocks source [] os none (omega arith));
+      names = subst (λ xs. different (versions_of source xs) ≤ NAME_LIMIT) all (few_names source [] os none (omega arith));
       numbers = numbers_fit source [] os none;
     }
 
-pub limits_kept : (source : List ℕ) (functions : List FunctionText) → limits_fault source functions ≡ None → AllByRecursion (KeepsLimits source) functions
+pub limits_kept : (source : List ℕ) (functions : List FunctionText) → limits_fault source functions ≡ None
+    → AllByRecursion (KeepsLimits source) functions
 unfolding limits_fault
 limits_kept source functions none = none_of_all (function_limit_faults source) (KeepsLimits source) (function_keeps source) functions none

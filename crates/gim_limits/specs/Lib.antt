@@ -1,3 +1,3 @@
 pub mod Limits
 pub mod Seen
-pub mod Kept
+pub mod KeepsLimits

@@ -1,9 +1,10 @@
--- Limits: versions and block numbers up to 999,999,999, 20,000 names and 2,000 blocks. Names are told apart by the digits of
--- their versions.
-use Rattle.std.specs.Prelude.{ℕ, suc, Bool, false, not, ◌&&◌, ◌||◌, ◌==◌, is_none, Option, Some, None, option_map, List, [], ◌∷◌, length, if◌then◌else◌}
+-- The limits of functions: numbers of versions and blocks, names and blocks. Names are told apart by the digits of their versions.
+use Rattle.std.specs.Prelude.{ℕ, suc, Bool, false, not, ◌&&◌, ◌||◌, ◌==◌, is_none, Option}
+use Rattle.std.specs.Prelude.{Some, None, option_map, List, [], ◌∷◌, length, if◌then◌else◌}
 use Rattle.std.specs.List.{flat_map, filter_map}
 use Rattle.lexing.specs.Numbers.{is_number_text, number_below}
 use Rattle.pm_places.specs.declared.span.Span.{Span}
+use Rattle.gim_text.specs.declared.limits.TheConstants.{BLOCK_LIMIT, NAME_LIMIT, NUMBER_LIMIT}
 use Rattle.gim_text.specs.declared.fault.GimpleFault.{GimpleFault}
 use Rattle.gim_text.specs.declared.fault.GimpleKind.TheVariants.{TooLarge}
 use Rattle.gim_text.specs.declared.tree.FunctionText.{FunctionText}
@@ -33,9 +34,9 @@ digits_at source (Block at) = Some (text_of source at)
 digits_at source (Jump at) = Some (named_at source at)
 digits_at source occurrence = version_at source occurrence
 
--- the digits of a number above 999,999,999
+-- the digits of a number that is too large
 abbrev pub is_above : List ℕ → Bool
-is_above digits = is_number_text digits && is_none (number_below 1000000000 digits)
+is_above digits = is_number_text digits && is_none (number_below NUMBER_LIMIT digits)
 
 abbrev pub is_any_above : Option (List ℕ) → Bool
 is_any_above None = false
@@ -56,21 +57,22 @@ abbrev pub different : List (List ℕ) → ℕ
 different [] = 0
 different (text ∷ texts) = if is_among texts text then different texts else suc (different texts)
 
--- the 20,001st name, where these versions stand before it
+-- one name too many, where these versions stand before it
 abbrev pub is_name_too_many : List (List ℕ) → Option (List ℕ) → Bool
 is_name_too_many versions None = false
-is_name_too_many versions (Some version) = not (is_among versions version) && (different versions == 20000)
+is_name_too_many versions (Some version) = not (is_among versions version) && (different versions == NAME_LIMIT)
 
--- the 2,001st block, where so many stand before it
+-- one block too many, where so many stand before it
 abbrev pub is_block_too_many : ℕ → Option Span → Bool
 is_block_too_many blocks None = false
-is_block_too_many blocks (Some at) = blocks == 2000
+is_block_too_many blocks (Some at) = blocks == BLOCK_LIMIT
 
 -- what occurs has too large a number, or is a name or a block too many; told what occurs before it
 abbrev pub is_too_large : List ℕ → List Occurrence → Occurrence → Bool
 is_too_large source before occurrence =
     is_any_above (digits_at source occurrence)
-    || (is_name_too_many (versions_of source before) (version_at source occurrence) || is_block_too_many (blocks_among before) (block_at occurrence))
+    || (is_name_too_many (versions_of source before) (version_at source occurrence)
+    || is_block_too_many (blocks_among before) (block_at occurrence))
 
 -- ---- faults
 

@@ -1,28 +1,27 @@
 //! The stage of limits: how many blocks and names a function has, and how large their numbers are.
 
-ghost use Rattle.std.specs.Prelude.{◌≡◌, ◌+◌, ◌||◌, ◌==◌, ℕ, suc, List, [], ◌∷◌, IfOk, option_map, length};
+ghost use Rattle.std.specs.Prelude.{◌≡◌, ◌+◌, ◌||◌, ◌==◌, ℕ, suc, List, []};
+ghost use Rattle.std.specs.Prelude.{◌∷◌, IfOk, option_map, length};
 ghost use Rattle.std.specs.List.{cons_option};
 ghost use Rattle.gim_text.specs.Faults.{Judges};
 ghost use Rattle.pm_places.specs.FirstFaults.{first_fault};
-ghost use Rattle.gim_limits.specs.Limits.{is_above, is_any_above, digits_at, version_at, version_of, blocks_among, versions_of, is_name_too_many, is_block_too_many, is_too_large, large_faults, function_limit_faults, limits_fault};
+ghost use Rattle.gim_limits.specs.Limits.{is_above, is_any_above, digits_at, version_at};
+ghost use Rattle.gim_limits.specs.Limits.{version_of, blocks_among, versions_of, is_name_too_many};
+ghost use Rattle.gim_limits.specs.Limits.{is_block_too_many, is_too_large, large_faults};
+ghost use Rattle.gim_limits.specs.Limits.{function_limit_faults, limits_fault};
 ghost use Rattle.gim_limits.specs.Seen.{IsSeen, Takes};
 
 use crate::numbers::is_above;
 use crate::seen::Seen;
 use gim_shape::named_at;
 use gim_text::{
-    FunctionText, GimpleFault, GimpleKind, Occurrence, block_at, name_at, name_parts, occurrences,
+    BLOCK_LIMIT, FunctionText, GimpleFault, GimpleKind, NAME_LIMIT, Occurrence, block_at, name_at,
+    name_parts, occurrences,
 };
 use pm_ops::OutOfMemory;
 use pm_places::{Span, text};
 use std::alloc::Global;
 use std::collections::HashSet;
-
-/// The most blocks of a function.
-const BLOCKS: usize = 2_000;
-
-/// The most names of a function.
-const NAMES: usize = 20_000;
 
 /// The digits of the version of a name at a place.
 fn version_of(source: &[u8], name: Option<Span>) -> Option<&[u8]>
@@ -84,12 +83,14 @@ impl<'a> Seen<'a> {
 
     /// Takes in a version; true where its name is one too many.
     fn take_version(&mut self, version: &'a [u8]) -> Result<bool, OutOfMemory>
-        ensures { (versions : List (List ℕ)) (blocks : ℕ) → IsSeen versions blocks self.old → IfOk result (λ large. Takes (is_name_too_many versions (Some version.now)) (IsSeen (version.now ∷ versions) blocks self.new) large) }
+        ensures { (versions : List (List ℕ)) (blocks : ℕ) → IsSeen versions blocks self.old →
+            IfOk result (λ large. Takes (is_name_too_many versions (Some version.now))
+            (IsSeen (version.now ∷ versions) blocks self.new) large) }
     {
         if !self.versions.insert(version)? {
             return Ok(false);
         }
-        if self.names == NAMES {
+        if self.names == NAME_LIMIT {
             return Ok(true);
         }
         self.names += 1;
@@ -98,7 +99,11 @@ impl<'a> Seen<'a> {
 
     /// Takes in the version of a name, if there is one; true where the name is one too many.
     fn take_name(&mut self, version: Option<&'a [u8]>) -> Result<bool, OutOfMemory>
-        ensures { (versions : List (List ℕ)) (blocks : ℕ) → IsSeen versions blocks self.old → IfOk result (λ large. Takes (is_name_too_many versions (option_map (λ x. x.now) version.entry)) (IsSeen (cons_option (option_map (λ x. x.now) version.entry) versions) blocks self.new) large) }
+        ensures { (versions : List (List ℕ)) (blocks : ℕ) → IsSeen versions blocks self.old →
+            IfOk result (λ large. Takes
+            (is_name_too_many versions (option_map (λ x. x.now) version.entry))
+            (IsSeen (cons_option (option_map (λ x. x.now) version.entry) versions) blocks
+            self.new) large) }
     {
         match version {
             Some(version) => self.take_version(version),
@@ -108,12 +113,15 @@ impl<'a> Seen<'a> {
 
     /// Takes in a block, if there is one; true where it is one too many.
     fn take_block(&mut self, block: Option<Span>) -> bool
-        ensures { (versions : List (List ℕ)) (blocks : List Span) → IsSeen versions (length blocks) self.old → Takes (is_block_too_many (length blocks) block) (IsSeen versions (length (cons_option block blocks)) self.new) result }
+        ensures { (versions : List (List ℕ)) (blocks : List Span) →
+            IsSeen versions (length blocks) self.old →
+            Takes (is_block_too_many (length blocks) block)
+            (IsSeen versions (length (cons_option block blocks)) self.new) result }
     {
         let Some(_at) = block else {
             return false;
         };
-        if self.blocks == BLOCKS {
+        if self.blocks == BLOCK_LIMIT {
             return true;
         }
         self.blocks += 1;
@@ -122,7 +130,11 @@ impl<'a> Seen<'a> {
 
     /// Takes in what occurs; true where something is too large there.
     fn take(&mut self, source: &'a [u8], occurrence: &Occurrence) -> Result<bool, OutOfMemory>
-        ensures { (before : List Occurrence) → IsSeen (versions_of source.now before) (blocks_among before) self.old → IfOk result (λ large. Takes (is_too_large source.now before occurrence.now) (IsSeen (versions_of source.now (occurrence.now ∷ before)) (blocks_among (occurrence.now ∷ before)) self.new) large) }
+        ensures { (before : List Occurrence) →
+            IsSeen (versions_of source.now before) (blocks_among before) self.old →
+            IfOk result (λ large. Takes (is_too_large source.now before occurrence.now)
+            (IsSeen (versions_of source.now (occurrence.now ∷ before))
+            (blocks_among (occurrence.now ∷ before)) self.new) large) }
     {
         if is_number_above(source, occurrence) {
             return Ok(true);
@@ -159,7 +171,8 @@ fn check_function(alloc: Global, source: &[u8], function: &FunctionText) -> Resu
     check_occurrences(alloc, source, occurrences.as_slice())
 }
 
-/// Checks the limits of functions: 2,000 blocks, 20,000 names, and versions and block numbers up to 999,999,999.
+/// Checks the limits of functions: how many blocks and names they have, and how large versions and
+/// block numbers are.
 #[tactic(auto, unfolding(crate::specs::Limits::limits_fault))]
 pub fn check_limits(
     alloc: Global,

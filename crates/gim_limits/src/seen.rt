@@ -1,6 +1,7 @@
 //! What stands at the places of a function that were gone through.
 
 ghost use Rattle.std.specs.Prelude.{◌≤◌};
+ghost use Rattle.gim_text.specs.declared.limits.TheConstants.{BLOCK_LIMIT, NAME_LIMIT};
 
 use std::collections::HashSet;
 
@@ -13,6 +14,6 @@ pub struct Seen<'a> {
     pub(crate) names: usize,
     /// How many blocks there are.
     pub(crate) blocks: usize,
-    ghost names_in_range: { names ≤ 20000 },
-    ghost blocks_in_range: { blocks ≤ 2000 },
+    ghost names_in_range: { names ≤ NAME_LIMIT },
+    ghost blocks_in_range: { blocks ≤ BLOCK_LIMIT },
 }

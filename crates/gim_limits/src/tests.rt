@@ -1,4 +1,5 @@
-//! Trees are built by lines that are written into a text as they are put together. A `!` before a word marks where the fault is.
+//! Trees are built by lines that are written into a text as they are put together. A `!` before a
+//! word marks where the fault is.
 
 use crate::check_limits;
 use gim_shape::check_shape;
@@ -81,7 +82,8 @@ impl Writer {
         Ok(span)
     }
 
-    /// Writes an operand, which is a constant where it begins with a digit and a default definition where it ends in `D`.
+    /// Writes an operand, which is a constant where it begins with a digit and a default definition
+    /// where it ends in `D`.
     fn operand(&mut self, word: &str) -> Result<OperandText, OutOfMemory> {
         if let Some(name) = word.strip_suffix("(D)") {
             return Ok(OperandText::Default(self.word(name)?));
@@ -187,7 +189,8 @@ impl Writer {
         Ok(())
     }
 
-    /// Whether the stage of shape finds a fault of this kind at the marked word, or none where none is marked.
+    /// Whether the stage of shape finds a fault of this kind at the marked word, or none where none
+    /// is marked.
     fn has_shape(&self, kind: GimpleKind) -> bool {
         let found = check_shape(
             self.alloc,
@@ -197,7 +200,8 @@ impl Writer {
         self.is_fault(found, kind)
     }
 
-    /// Whether the stage of limits finds that the marked word is too large, or nothing where none is marked.
+    /// Whether the stage of limits finds that the marked word is too large, or nothing where none
+    /// is marked.
     fn keeps_limits(&self) -> bool {
         let found = check_limits(
             self.alloc,
@@ -224,7 +228,8 @@ fn written(alloc: Global, lines: &[Line]) -> Result<Writer, OutOfMemory> {
     Ok(writer)
 }
 
-/// Whether the stage of shape finds a fault of this kind at the marked word of each, or none where none is marked.
+/// Whether the stage of shape finds a fault of this kind at the marked word of each, or none where
+/// none is marked.
 fn each_has_shape(alloc: Global, cases: &[&[Line]], kind: GimpleKind) -> Result<bool, OutOfMemory> {
     for lines in cases {
         if !written(alloc, lines)?.has_shape(kind) {
@@ -234,7 +239,8 @@ fn each_has_shape(alloc: Global, cases: &[&[Line]], kind: GimpleKind) -> Result<
     Ok(true)
 }
 
-/// Whether the stage of limits finds that the marked word of each is too large, or nothing where none is marked.
+/// Whether the stage of limits finds that the marked word of each is too large, or nothing where
+/// none is marked.
 fn each_keeps_limits(alloc: Global, cases: &[&[Line]]) -> Result<bool, OutOfMemory> {
     for lines in cases {
         if !written(alloc, lines)?.keeps_limits() {
@@ -372,7 +378,8 @@ fn a_phi_where_none_may_stand(rt: HostRuntime) -> Result<(), OutOfMemory> {
     Ok(())
 }
 
-/// Phis of the third block, to which the two before it jump: the first by both of its jumps, and the second, to which none leads.
+/// Phis of the third block, to which the two before it jump: the first by both of its jumps, and
+/// the second, to which none leads.
 const ARGUMENTS: [Line; 7] = [
     Phi("x_3", &["__BB2", "__BB3"]),
     Phi("x_3", &["__BB3", "__BB2"]),

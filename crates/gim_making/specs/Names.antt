@@ -12,7 +12,7 @@ use Rattle.gim_text.specs.Occurrences.{name_at, occurrences_of}
 use Rattle.gim_text.specs.Texts.{name_parts}
 use Rattle.pm_places.specs.Spans.{text_of}
 use Rattle.gim_making.specs.declared.places.NamePlace.{NamePlace}
-use Rattle.gim_making.specs.Declarations.{Declarations, type_of_name, number_of, declarations_of}
+use Rattle.gim_typing.specs.Declarations.{Declarations, type_of_name, number_of, declarations_of}
 
 -- ---- places
 

@@ -4,7 +4,7 @@ use Rattle.gim_ast.specs.declared.function.Function.{Function}
 use Rattle.gim_ast.specs.declared.function.NameRow.{NameRow}
 use Rattle.gim_text.specs.declared.tree.FunctionText.{FunctionText}
 use Rattle.pm_places.specs.Spans.{text_of}
-use Rattle.gim_making.specs.Declarations.{declarations_of}
+use Rattle.gim_typing.specs.Declarations.{declarations_of}
 use Rattle.gim_making.specs.Trees.{block_of, decl_of}
 use Rattle.gim_making.specs.Names.{AreNames, named_rows}
 

@@ -1,17 +1,11 @@
--- What the parts of a tree stand for: operands, right sides, phis, statements, ends and blocks.
+-- What the parts of a tree stand for: phis, statements, ends and blocks.
 use Rattle.std.specs.Prelude.{ℕ, Option, Some, None, List, [], ◌∷◌, map}
 use Rattle.std.specs.List.{flat_map}
-use Rattle.std.specs.Option.{unwrap_or}
-use Rattle.pm_ops.specs.declared.code.Code.TheVariants.{Convert, Cond}
-use Rattle.pm_wide.specs.Types.{Word, bool_type}
 use Rattle.pm_wide.specs.declared.operand.Operand.{Operand}
-use Rattle.pm_wide.specs.declared.operand.Operand.TheVariants as operands
 use Rattle.gim_ast.specs.declared.function.Block.{Block}
 use Rattle.gim_ast.specs.declared.function.Decl.{Decl}
 use Rattle.gim_ast.specs.declared.function.Phi.{Phi}
 use Rattle.gim_ast.specs.declared.function.Stmt.{Stmt}
-use Rattle.gim_ast.specs.declared.function.Rhs.{Rhs}
-use Rattle.gim_ast.specs.declared.function.Rhs.TheVariants as sides
 use Rattle.gim_ast.specs.declared.function.End.{End}
 use Rattle.gim_ast.specs.declared.function.End.TheVariants as ends
 use Rattle.pm_places.specs.declared.span.Span.{Span}
@@ -22,32 +16,10 @@ use Rattle.gim_text.specs.declared.tree.EndText.{EndText}
 use Rattle.gim_text.specs.declared.tree.EndText.TheVariants.{Goto, If, Return}
 use Rattle.gim_text.specs.declared.tree.ItemText.{ItemText}
 use Rattle.gim_text.specs.declared.tree.ItemText.TheVariants as items
-use Rattle.gim_text.specs.declared.tree.OperandText.{OperandText}
-use Rattle.gim_text.specs.declared.tree.OperandText.TheVariants.{Name, Default, Literal}
-use Rattle.gim_text.specs.declared.tree.RightForm.{RightForm}
-use Rattle.gim_text.specs.declared.tree.RightForm.TheVariants.{Copy, Unary, Cast, Binary, Choice}
-use Rattle.gim_text.specs.Literals.{literal_word}
 use Rattle.gim_text.specs.Texts.{block_digits}
 use Rattle.pm_places.specs.Spans.{text_of}
-use Rattle.gim_making.specs.Declarations.{Declarations, type_of_name, version_of_name, number_of}
-
--- the word of a constant that its type doesn't hold, which the rules on names don't let pass
-abbrev pub no_word : Word
-no_word = record { bits = 0; ty = bool_type }
-
--- a name with the type of its declaration, or a constant
-abbrev pub operand_of : Declarations → OperandText → Operand
-operand_of known (Name at) = operands.Name (version_of_name known.source at) (type_of_name known at)
-operand_of known (Default at) = operands.Name (version_of_name known.source at) (type_of_name known at)
-operand_of known (Literal literal) = operands.Const (unwrap_or (literal_word known.source literal) no_word)
-
--- a cast is a conversion to the type of the name that is assigned, and a choice the operation of three operands
-abbrev pub rhs_of : Declarations → RightForm → Rhs
-rhs_of known (Copy a) = sides.Copy (operand_of known a)
-rhs_of known (Unary code a) = sides.Op code (operand_of known a ∷ [])
-rhs_of known (Cast t a) = sides.Op Convert (operand_of known a ∷ [])
-rhs_of known (Binary code a b) = sides.Op code (operand_of known a ∷ operand_of known b ∷ [])
-rhs_of known (Choice a b c) = sides.Op Cond (operand_of known a ∷ operand_of known b ∷ operand_of known c ∷ [])
+use Rattle.gim_typing.specs.Declarations.{Declarations, version_of_name, number_of}
+use Rattle.gim_typing.specs.Operands.{operand_of, rhs_of}
 
 -- the number of the block that a `__BBn` names
 abbrev pub block_number : List ℕ → Span → ℕ

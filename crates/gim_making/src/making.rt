@@ -3,16 +3,18 @@
 ghost use Rattle.std.specs.Prelude.{◌≡◌, IfOk, map};
 ghost use Rattle.std.specs.List.{flat_map};
 ghost use Rattle.gim_making.specs.Standing.{StandsFor};
-ghost use Rattle.gim_making.specs.Trees.{arg_of, block_number, block_of, decl_of, end_of, operand_of, phi_of, rhs_of, stmt_of};
+ghost use Rattle.gim_making.specs.Trees.{arg_of, block_number, block_of};
+ghost use Rattle.gim_making.specs.Trees.{decl_of, end_of, phi_of, stmt_of};
+ghost use Rattle.gim_typing.specs.Operands.{operand_of, rhs_of};
 
-use crate::numbers::number;
 use crate::places::names_in;
 use crate::rows::names;
-use crate::scope::Scope;
 use gim_ast::{Block, Decl, End, Function, Operands, Phi, Rhs, Stmt};
+use gim_shape::named_at;
 use gim_text::{
     ArgText, BlockText, DeclText, EndText, FunctionText, ItemText, OperandText, RightForm, literal,
 };
+use gim_typing::{Scope, number};
 use pm_items::Items;
 use pm_ops::{Code, OutOfMemory, Text};
 use pm_places::{Span, text};
@@ -54,9 +56,7 @@ fn rhs(alloc: Global, scope: &Scope, form: &RightForm) -> Rhs
 fn block_number(source: &[u8], at: Span) -> u32
     ensures { result ≡ block_number source.now at }
 {
-    let word = text(source, at);
-    let (_, digits) = word.split_at(word.len().min(4));
-    number(digits)
+    number(named_at(source, at))
 }
 
 fn args(

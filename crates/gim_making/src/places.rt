@@ -56,7 +56,8 @@ fn names_among(
     source: &[u8],
     occurrences: &[Occurrence],
 ) -> Result<Vec<NamePlace>, OutOfMemory>
-    ensures { IfOk result (λ places. places.items ≡ filter_map (name_place source.now) occurrences.now) }
+    ensures { IfOk result (λ places. places.items ≡
+        filter_map (name_place source.now) occurrences.now) }
 {
     let mut places = Vec::new(alloc);
     for occurrence in occurrences {

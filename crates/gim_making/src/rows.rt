@@ -7,11 +7,10 @@ ghost use Rattle.std.specs.Option.{option_or};
 ghost use Rattle.std.specs.Ordering.{nat_cmp};
 ghost use Rattle.gim_making.specs.Names.{AreNames, first_of, rows_of_place};
 
-use crate::numbers::number;
 use crate::places::NamePlace;
-use crate::scope::Scope;
 use gim_ast::NameRow;
 use gim_text::name_parts;
+use gim_typing::{Scope, number};
 use pm_items::Items;
 use pm_ops::{OutOfMemory, Text};
 use pm_places::text;
@@ -25,7 +24,8 @@ fn put_row(
     scope: &Scope,
     place: &NamePlace,
 ) -> Result<(), OutOfMemory>
-    ensures { OnOk result ((v : ℕ) → tree.get nat_cmp rows.new v ≡ option_or (tree.get nat_cmp rows.old v) (first_of v (rows_of_place scope.now place.now))) }
+    ensures { OnOk result ((v : ℕ) → tree.get nat_cmp rows.new v ≡
+        option_or (tree.get nat_cmp rows.old v) (first_of v (rows_of_place scope.now place.now))) }
 {
     if let Some((base, digits)) = name_parts(text(scope.source(), place.at)) {
         let version = number(digits);
@@ -48,7 +48,8 @@ fn gather(
     scope: &Scope,
     places: &[NamePlace],
 ) -> Result<BTreeMap<u32, NameRow>, OutOfMemory>
-    ensures { IfOk result (λ rows. (v : ℕ) → tree.get nat_cmp rows v ≡ first_of v (flat_map (rows_of_place scope.now) places.now)) }
+    ensures { IfOk result (λ rows. (v : ℕ) →
+        tree.get nat_cmp rows v ≡ first_of v (flat_map (rows_of_place scope.now) places.now)) }
 {
     let mut rows = BTreeMap::new(alloc);
     for place in places {

@@ -1,7 +1,7 @@
-pub mod OrLemmas
-pub mod TableLemmas
+pub mod ShortCircuit
+pub mod TextTables
 pub mod Judging
-pub mod Saying
-pub mod Keeping
-pub mod Places
-pub mod KeptParts
+pub mod DeclaredIdentifiers
+pub mod NamesKept
+pub mod BlocksKeepNames
+pub mod OccurrencesAreOne

@@ -1,5 +1,5 @@
-pub mod Parts
+pub mod OccurrenceTexts
 pub mod Rules
 pub mod NamesFault
 pub mod Tables
-pub mod Kept
+pub mod KeepsNames

@@ -1,5 +1,5 @@
 -- The fault of the stage of names: the first place of the file at which a rule on names is broken.
-use Rattle.std.specs.Prelude.{ℕ, Bool, true, false, Option, Some, None, option_map, List, [], ◌∷◌, map, if◌then◌else◌}
+use Rattle.std.specs.Prelude.{ℕ, Bool, true, false, Option, Some, None, option_map, List, [], map, if◌then◌else◌}
 use Rattle.std.specs.List.{list_any}
 use Rattle.gim_ast.specs.WellFormed.{same_text}
 use Rattle.gim_text.specs.declared.fault.GimpleFault.{GimpleFault}

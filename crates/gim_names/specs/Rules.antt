@@ -8,7 +8,9 @@ use Rattle.gim_text.specs.Texts.{name_parts}
 use Rattle.pm_places.specs.Spans.{text_of}
 use Rattle.gim_text.specs.declared.occurrence.Occurrence.{Occurrence}
 use Rattle.gim_text.specs.declared.occurrence.Occurrence.TheVariants.{Parameter, Assigned, Used, Default, Constant}
-use Rattle.gim_names.specs.Parts.{param_text, local_text, declared_text, block_number, assigned_text, assigned_version, plain_version, default_version, version_base, base_default}
+use Rattle.gim_names.specs.OccurrenceTexts.{param_text, local_text, declared_text, block_number, assigned_text}
+use Rattle.gim_names.specs.OccurrenceTexts.{assigned_version, plain_version, default_version, version_base}
+use Rattle.gim_names.specs.OccurrenceTexts.{base_default}
 
 -- ---- general tests
 
@@ -78,7 +80,8 @@ abbrev pub lacks_base : List ℕ → List Occurrence → List ℕ → Option (Li
 lacks_base source all text None = true
 lacks_base source all text (Some ([], version)) = not (list_any (same_text text) (filter_map (local_text source) all))
 lacks_base source all text (Some (b ∷ base, version)) =
-    not (list_any (same_text (b ∷ base)) (filter_map (local_text source) all) || list_any (same_text (b ∷ base)) (filter_map (param_text source) all))
+    not (list_any (same_text (b ∷ base)) (filter_map (local_text source) all)
+    || list_any (same_text (b ∷ base)) (filter_map (param_text source) all))
 
 -- no name, or its base is no parameter
 abbrev pub lacks_param : List ℕ → List Occurrence → Option (List ℕ × List ℕ) → Bool

@@ -10,7 +10,9 @@ use Rattle.gim_ast.specs.WellFormed.{same_text}
 use Rattle.gim_text.specs.declared.occurrence.Occurrence.{Occurrence}
 use Rattle.gim_names.specs.declared.scope.Scope.{Scope}
 use Rattle.gim_names.specs.declared.past.Past.{Past}
-use Rattle.gim_names.specs.Parts.{param_text, local_text, declared_text, block_number, assigned_text, assigned_version, plain_version, default_version, version_base, base_default}
+use Rattle.gim_names.specs.OccurrenceTexts.{param_text, local_text, declared_text, block_number, assigned_text}
+use Rattle.gim_names.specs.OccurrenceTexts.{assigned_version, plain_version, default_version, version_base}
+use Rattle.gim_names.specs.OccurrenceTexts.{base_default}
 use Rattle.gim_names.specs.Rules.{has_other_second}
 
 -- the set has these texts and no others

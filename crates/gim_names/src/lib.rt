@@ -1,12 +1,13 @@
 //! The rules on the names of a GIMPLE file.
 //!
-//! A function is seen as what occurs in it: identifiers, numbers of blocks, names and constants. They are judged one after
-//! another (`judge`), by what the function has as a whole (`scope`) and by what stood before (`past`).
+//! A function is seen as what occurs in it: identifiers, numbers of blocks, names and constants.
+//! They are judged one after another (`judge`), by what the function has as a whole (`scope`) and
+//! by what stood before (`past`).
 #![tactic(auto)]
 
 mod judge;
 pub mod laws;
-mod parts;
+mod occurrence_texts;
 mod past;
 mod scope;
 mod tables;

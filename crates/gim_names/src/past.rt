@@ -3,7 +3,7 @@
 ghost use Rattle.std.specs.Prelude.{◌≡◌, ℕ, List, [], ◌∷◌, IfOk, OnOk};
 ghost use Rattle.gim_names.specs.Tables.{Remembers};
 
-use crate::parts::{
+use crate::occurrence_texts::{
     assigned_version, base_default, block_number, declared_text, default_version, plain_version,
     version_base,
 };
@@ -50,7 +50,8 @@ impl<'a> Past<'a> {
 
     /// Notes one more occurrence.
     pub fn note(&mut self, source: &'a [u8], occurrence: &Occurrence) -> Result<(), OutOfMemory>
-        ensures { (before : List Occurrence) → Remembers source.now before self.old → OnOk result (Remembers source.now (occurrence.now ∷ before) self.new) }
+        ensures { (before : List Occurrence) → Remembers source.now before self.old →
+            OnOk result (Remembers source.now (occurrence.now ∷ before) self.new) }
     {
         put(&mut self.declared, declared_text(source, occurrence))?;
         put(&mut self.blocks, block_number(source, occurrence))?;

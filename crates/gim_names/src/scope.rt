@@ -3,7 +3,7 @@
 ghost use Rattle.std.specs.Prelude.{◌≡◌, ℕ, List, [], ◌∷◌, IfOk, OnOk};
 ghost use Rattle.gim_names.specs.Tables.{Describes};
 
-use crate::parts::{assigned_text, local_text, param_text};
+use crate::occurrence_texts::{assigned_text, local_text, param_text};
 use crate::tables::put;
 use gim_text::Occurrence;
 use pm_ops::OutOfMemory;
@@ -32,7 +32,8 @@ impl<'a> Scope<'a> {
 
     /// Notes what an occurrence declares or assigns.
     fn note(&mut self, source: &'a [u8], occurrence: &Occurrence) -> Result<(), OutOfMemory>
-        ensures { (all : List Occurrence) → Describes source.now all self.old → OnOk result (Describes source.now (occurrence.now ∷ all) self.new) }
+        ensures { (all : List Occurrence) → Describes source.now all self.old →
+            OnOk result (Describes source.now (occurrence.now ∷ all) self.new) }
     {
         put(&mut self.params, param_text(source, occurrence))?;
         put(&mut self.locals, local_text(source, occurrence))?;

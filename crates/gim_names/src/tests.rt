@@ -11,9 +11,9 @@ use std::mem;
 
 /// Texts without a fault. A text is words in pairs: a letter says what the word behind it is.
 ///
-/// `f` a function, `p` a parameter, `l` a local, `b` the number of a block, `i` a name that a phi assigns, `a` one that a
-/// statement assigns, `r` the end of a block, and then operands: `u` a name, `d` a name with `(D)`, `c` a number,
-/// `n` a negative number of type `signed char`.
+/// `f` a function, `p` a parameter, `l` a local, `b` the number of a block, `i` a name that a phi
+/// assigns, `a` one that a statement assigns, `r` the end of a block, and then operands: `u` a
+/// name, `d` a name with `(D)`, `c` a number, `n` a negative number of type `signed char`.
 const ACCEPTED: [&str; 19] = [
     "",
     "f f",

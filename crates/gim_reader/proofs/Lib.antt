@@ -1,5 +1,5 @@
 pub mod OneFile
-pub mod ReaderLemmas
-pub mod WrittenLemmas
+pub mod Stages
+pub mod WrittenTrees
 pub mod OneAnswer
 pub mod WithinSource

@@ -1,5 +1,6 @@
 -- A file stands for one list of functions.
-use Rattle.std.proofs.Common.{◌≡◌, ◌≢◌, ◌⊎◌, ℕ, ◌<◌, ◌==◌, ltb, Bool, true, false, List, [], ◌∷◌, map, Option, Some, None, refl, sym, ap, subst, ◌∙◌, arith, inl, inr}
+use Rattle.std.proofs.Common.{◌≡◌, ◌≢◌, ◌⊎◌, ℕ, ◌<◌, ◌==◌, ltb, Bool, true, false, List, [], ◌∷◌, map}
+use Rattle.std.proofs.Common.{Option, Some, None, refl, sym, ap, subst, ◌∙◌, arith, inl, inr}
 use Rattle.std.specs.Prelude.{nat_lt}
 use Rattle.std.specs.List.{AllZip, list_all}
 use Rattle.std.proofs.lemmas.Bool.{and_parts, eqb-true, eq-eqb, ne_eqb, ltb-true, ltb-false}
@@ -33,7 +34,8 @@ first_after : (v : ℕ) (row : NameRow) (rows : List NameRow) → row.version �
 first_after v row rows other = rw (ne_eqb row.version v other) refl
 
 -- of two lists that rise, with the same first row of each version, the heads are one
-heads : (x y : NameRow) (xs ys : List NameRow) → Above x.version xs → Above y.version ys → ((v : ℕ) → first_of v (x ∷ xs) ≡ first_of v (y ∷ ys)) → x ≡ y
+heads : (x y : NameRow) (xs ys : List NameRow) → Above x.version xs → Above y.version ys
+    → ((v : ℕ) → first_of v (x ∷ xs) ≡ first_of v (y ∷ ys)) → x ≡ y
 heads x y xs ys above_x above_y same = by (x.version == y.version) refl (ltb x.version y.version) refl where
   has : (a b : NameRow) → ◌≡◌ {A = Option NameRow} (Some a) (Some b) → a ≡ b
   has a b e = cc
@@ -48,14 +50,17 @@ heads x y xs ys above_x above_y same = by (x.version == y.version) refl (ltb x.v
   by false e true l =
       let lower : x.version < y.version = ltb-true x.version y.version l in
       let other : y.version ≢ x.version = λ h. absurd (omega (arith, lower, h)) in
-      absurd (gone x (sym (first_here x xs) ∙ same x.version ∙ first_after x.version y ys other ∙ above_first x.version y.version ys above_y (inl lower)))
+      absurd (gone x (sym (first_here x xs) ∙ same x.version ∙ first_after x.version y ys other
+      ∙ above_first x.version y.version ys above_y (inl lower)))
   by false e false l =
       let at_least = ltb-false x.version y.version l in
       let unlike : x.version ≢ y.version = λ h. absurd (let t : (x.version == y.version) ≡ true = eq-eqb x.version y.version h in cc) in
       let lower : y.version < x.version = omega (arith, at_least, unlike) in
-      absurd (gone y (sym (first_here y ys) ∙ sym (same y.version) ∙ first_after y.version x xs unlike ∙ above_first y.version x.version xs above_x (inl lower)))
+      absurd (gone y (sym (first_here y ys) ∙ sym (same y.version) ∙ first_after y.version x xs unlike
+      ∙ above_first y.version x.version xs above_x (inl lower)))
 
-tails : (x : NameRow) (xs ys : List NameRow) → Above x.version xs → Above x.version ys → ((v : ℕ) → first_of v (x ∷ xs) ≡ first_of v (x ∷ ys)) → (v : ℕ) → first_of v xs ≡ first_of v ys
+tails : (x : NameRow) (xs ys : List NameRow) → Above x.version xs → Above x.version ys
+    → ((v : ℕ) → first_of v (x ∷ xs) ≡ first_of v (x ∷ ys)) → (v : ℕ) → first_of v xs ≡ first_of v ys
 tails x xs ys above_xs above_ys same v = by (x.version == v) refl where
   by : (equal : Bool) → (x.version == v) ≡ equal → first_of v xs ≡ first_of v ys
   by true e =
@@ -65,7 +70,8 @@ tails x xs ys above_xs above_ys same v = by (x.version == v) refl where
       let other : x.version ≢ v = λ h. absurd (let t : (x.version == v) ≡ true = eq-eqb x.version v h in cc) in
       sym (first_after v x xs other) ∙ same v ∙ first_after v x ys other
 
-names_once : (xs ys : List NameRow) → rises (map version_of xs) ≡ true → rises (map version_of ys) ≡ true → ((v : ℕ) → first_of v xs ≡ first_of v ys) → xs ≡ ys
+names_once : (xs ys : List NameRow) → rises (map version_of xs) ≡ true → rises (map version_of ys) ≡ true
+    → ((v : ℕ) → first_of v xs ≡ first_of v ys) → xs ≡ ys
 names_once [] [] rise_xs rise_ys same = refl
 names_once [] (y ∷ ys) rise_xs rise_ys same = absurd (let e = same y.version ∙ first_here y ys in cc)
 names_once (x ∷ xs) [] rise_xs rise_ys same = absurd (let e = sym (same x.version) ∙ first_here x xs in cc)
@@ -74,7 +80,9 @@ names_once (x ∷ xs) (y ∷ ys) rise_xs rise_ys same =
     let q = and_parts (list_all (nat_lt y.version) (map version_of ys)) (rises (map version_of ys)) rise_ys in
     let e = heads x y xs ys p.0 q.0 same in
     let above : Above x.version ys = subst (λ (r : NameRow). Above r.version ys) (sym e) q.0 in
-    let rest = names_once xs ys p.1 q.1 (tails x xs ys p.0 above (subst (λ (r : NameRow). (v : ℕ) → first_of v (x ∷ xs) ≡ first_of v (r ∷ ys)) (sym e) same)) in
+    let rest =
+    names_once xs ys p.1 q.1 (tails x xs ys p.0 above
+    (subst (λ (r : NameRow). (v : ℕ) → first_of v (x ∷ xs) ≡ first_of v (r ∷ ys)) (sym e) same)) in
     rw (e, rest) refl
 
 stands_once : (source : List ℕ) (tree : FunctionText) (f g : Function) → StandsFor source tree f → StandsFor source tree g → f ≡ g
@@ -82,10 +90,12 @@ stands_once source tree f g of_f of_g =
     let names = names_once f.names g.names of_f.names.rising of_g.names.rising (λ v. of_f.names.same v ∙ sym (of_g.names.same v)) in
     of_f.whole ∙ ap (made source tree) names ∙ sym of_g.whole
 
-pub stand_once : (source : List ℕ) (trees : List FunctionText) (fs gs : List Function) → AllZip (StandsFor source) trees fs → AllZip (StandsFor source) trees gs → fs ≡ gs
+pub stand_once : (source : List ℕ) (trees : List FunctionText) (fs gs : List Function)
+    → AllZip (StandsFor source) trees fs → AllZip (StandsFor source) trees gs → fs ≡ gs
 stand_once source [] [] [] all_f all_g = refl
 stand_once source [] (f ∷ fs) gs all_f all_g = absurd all_f
 stand_once source [] [] (g ∷ gs) all_f all_g = absurd all_g
 stand_once source (tree ∷ trees) [] gs all_f all_g = absurd all_f
 stand_once source (tree ∷ trees) (f ∷ fs) [] all_f all_g = absurd all_g
-stand_once source (tree ∷ trees) (f ∷ fs) (g ∷ gs) all_f all_g = rw (stands_once source tree f g all_f.0 all_g.0, stand_once source trees fs gs all_f.1 all_g.1) refl
+stand_once source (tree ∷ trees) (f ∷ fs) (g ∷ gs) all_f all_g =
+    rw (stands_once source tree f g all_f.0 all_g.0, stand_once source trees fs gs all_f.1 all_g.1) refl

@@ -1,43 +1,49 @@
-//! GIMPLE files, as GCC's front end reads functions under `__GIMPLE (ssa)`: from bytes to functions, or to the first fault.
+//! GIMPLE files, as GCC's front end reads functions under `__GIMPLE (ssa)`: from bytes to
+//! functions, or to the first fault.
 //!
 //! docs/GIMPLE.md has the text that is read, and its faults.
 #![tactic(auto)]
 
 pub mod laws;
 
-ghost use Rattle.std.specs.Prelude.{◌≡◌, ◌⊎◌, ◌+◌, ◌≤◌, List, IfOk, IfErr, OnOk, MatchResult, None, length};
+ghost use Rattle.std.specs.Prelude.{◌≡◌, ◌⊎◌, ◌+◌, ◌≤◌, List, IfOk, IfErr};
+ghost use Rattle.std.specs.Prelude.{OnOk, MatchResult, None, length};
 ghost use Rattle.std.specs.List.{AllByRecursion, AllZip};
 ghost use Rattle.gim_ast.specs.declared.function.Function.{Function};
 ghost use Rattle.gim_ast.specs.WellFormed.{IsWellFormed};
 ghost use Rattle.gim_text.specs.declared.fault.GimpleKind.TheVariants.{Memory};
 ghost use Rattle.gim_text.specs.Faults.{Judges};
 ghost use Rattle.gim_making.specs.Standing.{StandsFor};
-ghost use Rattle.gim_reader.specs.Files.{IsFile, IsRefusal, FromTokens, IsTokensRefusal, rules_fault, size_fault};
+ghost use Rattle.gim_reader.specs.Files.{IsFile, IsRefusal, FromTokens};
+ghost use Rattle.gim_reader.specs.Files.{IsTokensRefusal, rules_fault, size_fault};
 
 use gim_ast::Function;
 use gim_lexer::lex;
 use gim_limits::check_limits;
-use gim_making::{check_types, make};
+use gim_making::make;
 use gim_names::check_names;
 use gim_shape::check_shape;
 use gim_syntax::read_syntax;
 use gim_text::{FunctionText, Token};
 pub use gim_text::{GimpleFault, GimpleKind};
+use gim_typing::check_types;
 use std::alloc::Global;
 
 /// The greatest length of a file.
-const FILE_LIMIT: usize = 16_777_216;
+pub const FILE_LIMIT: usize = 16_777_216;
 
 /// The functions that a file stands for, or its first fault.
 pub fn read(alloc: Global, source: &[u8]) -> Result<Vec<Function>, GimpleFault>
     // What is read is what the bytes stand for.
     ensures found { IfOk result (λ fs. IsFile source.now fs.items) }
     // What the bytes stand for is read, unless memory runs out.
-    ensures only { (fs : List Function) → IsFile source.now fs → MatchResult result (λ gs. gs.items ≡ fs) (λ fault. fault.kind ≡ Memory) }
+    ensures only { (fs : List Function) → IsFile source.now fs →
+        MatchResult result (λ gs. gs.items ≡ fs) (λ fault. fault.kind ≡ Memory) }
     // A refusal is for the first fault, or for want of memory.
     ensures refused { IfErr result (IsRefusal source.now) }
     // The fault stands in the source, unless memory runs out.
-    ensures within { IfErr result (λ fault. (fault.kind ≡ Memory) ⊎ (fault.at + fault.len ≤ length source.now)) }
+    ensures within { IfErr result (λ fault. (fault.kind ≡ Memory) ⊎
+        (fault.at + fault.len ≤ length source.now)) }
     // Each function is well formed.
     ensures well_formed { IfOk result (λ fs. AllByRecursion IsWellFormed fs.items) }
 {
@@ -51,7 +57,8 @@ pub fn read(alloc: Global, source: &[u8]) -> Result<Vec<Function>, GimpleFault>
 /// The functions that the tokens of a source spell.
 fn from_tokens(alloc: Global, source: &[u8], tokens: &[Token]) -> Result<Vec<Function>, GimpleFault>
     ensures found { IfOk result (λ fs. FromTokens source.now tokens.now fs.items) }
-    ensures only { (fs : List Function) → FromTokens source.now tokens.now fs → MatchResult result (λ gs. gs.items ≡ fs) (λ fault. fault.kind ≡ Memory) }
+    ensures only { (fs : List Function) → FromTokens source.now tokens.now fs →
+        MatchResult result (λ gs. gs.items ≡ fs) (λ fault. fault.kind ≡ Memory) }
     ensures refused { IfErr result (IsTokensRefusal source.now tokens.now) }
 {
     let trees = read_syntax(alloc, source.len(), tokens)?;

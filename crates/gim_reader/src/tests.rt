@@ -1,7 +1,10 @@
 //! Each kind of fault at each of its places, and whole files that are read.
 
 use crate::{GimpleKind, read};
+use gim_ast::{End, Rhs};
+use pm_ops::Code;
 use pm_places::{Span, text};
+use pm_wide::{IntType, Operand, Wide};
 use std::process::Abort;
 use std::test::Fail;
 
@@ -13,11 +16,13 @@ const READ: [&str; 5] = [
     "__BB(2): return 5;",
     "__BB(2,freq(5)): _4 = -5; return _4;",
     "__BB(2): _4 = - _Literal (int) 5; goto __BB3(likely); __BB(3): return _4;",
-    "__BB(2): if (x_1(D) < 0) goto __BB3; else goto __BB3; __BB(3): a_9 = __PHI (__BB2: x_1(D)); return a_9;",
+    "__BB(2): if (x_1(D) < 0) goto __BB3; else goto __BB3; \
+     __BB(3): a_9 = __PHI (__BB2: x_1(D)); return a_9;",
     "__BB(2): a_999999999 = 5; return 0;",
 ];
 
-/// Blocks with the kind of their first fault, and the token where it stands: faults of lexing and syntax.
+/// Blocks with the kind of their first fault, and the token where it stands: faults of lexing and
+/// syntax.
 const SYNTAX: [(&str, GimpleKind, &str); 12] = [
     (
         "__BB(2): _4 = foo (x_1(D)); return _4;",
@@ -182,7 +187,8 @@ const STAGES: [(&str, GimpleKind, &str); 4] = [
 const FILES: [(&str, usize); 2] = [
     ("", 0),
     (
-        ";; Function f (f, funcdef_no=0)\n\nint __GIMPLE (ssa,guessed_local(7))\nf (void)\n{ __BB(2): return 0; }\n",
+        ";; Function f (f, funcdef_no=0)\n\n\
+         int __GIMPLE (ssa,guessed_local(7))\nf (void)\n{ __BB(2): return 0; }\n",
         1,
     ),
 ];
@@ -215,7 +221,8 @@ const HEADS: [(&str, GimpleKind, &str); 7] = [
         "void",
     ),
     (
-        "int __GIMPLE (ssa)\nf ()\n{ __BB(2): return 0; }\nint __GIMPLE (ssa)\nf ()\n{ __BB(2): return 0; }\n",
+        "int __GIMPLE (ssa)\nf ()\n{ __BB(2): return 0; }\n\
+         int __GIMPLE (ssa)\nf ()\n{ __BB(2): return 0; }\n",
         GimpleKind::Redefined,
         "f",
     ),
@@ -309,6 +316,129 @@ fn files_are_read(rt: HostRuntime) -> Result<(), Fail> {
 fn heads_are_refused(rt: HostRuntime) -> Result<(), Fail> {
     for (source, kind, token) in &HEADS {
         refuse(&rt, source.as_bytes(), *kind, token)?;
+    }
+    Ok(())
+}
+
+/// A function with declarations of each kind, and each part of a block.
+const MADE: &str = "\
+long __GIMPLE (ssa)
+f (int x, long y)
+{
+  int _2;
+  long _3;
+  _Bool _4;
+  int z;
+  int _7;
+  long x_8;
+
+  __BB(2):
+  _2 = x_1(D) << y_5(D);
+  if (-7 < _2) goto __BB3; else goto __BB30;
+
+  __BB(3):
+  _7 = 9;
+  goto __BB30;
+
+  __BB(30):
+  z_9 = __PHI (__BB2: x_1(D), __BB3: _7);
+  _3 = (long) z_9;
+  return y_5(D);
+}
+";
+
+#[test]
+fn declarations_and_names_are_made(rt: HostRuntime) -> Result<(), Fail> {
+    let Ok(functions) = read(rt.alloc(), MADE.as_bytes()) else {
+        assert!(rt; false);
+        return Ok(());
+    };
+    assert_eq!(rt; functions.len(), 1);
+    let (int, long) = (IntType::int(), IntType::long());
+    for function in functions.as_slice() {
+        assert_eq!(rt; function.name.bytes(), b"f".as_slice());
+        assert!(rt; function.result == long);
+        let params = [("x", int), ("y", long)];
+        assert_eq!(rt; function.params.len(), params.len());
+        for (decl, (ident, ty)) in function.params.iter().zip(params.iter()) {
+            assert!(rt;
+                decl.ident.bytes() == ident.as_bytes() && decl.ty == *ty,
+                "{ident}"
+            );
+        }
+        let decls = ["_2", "_3", "_4", "z", "_7", "x_8"];
+        assert_eq!(rt; function.decls.len(), decls.len());
+        for (decl, ident) in function.decls.iter().zip(decls.iter()) {
+            assert!(rt; decl.ident.bytes() == ident.as_bytes(), "{ident}");
+        }
+        let rows = [
+            (1, "x", int, true),
+            (2, "", int, false),
+            (3, "", long, false),
+            (4, "", IntType::boolean(), false),
+            (5, "y", long, true),
+            (7, "", int, false),
+            (9, "z", int, false),
+        ];
+        assert_eq!(rt; function.names.len(), rows.len());
+        for (row, (version, base, ty, initial)) in function.names.iter().zip(rows.iter()) {
+            assert_eq!(rt; row.version, *version);
+            assert!(rt; row.base.bytes() == base.as_bytes(), "{version}");
+            assert!(rt; row.ty == *ty && row.initial == *initial, "{version}");
+        }
+    }
+    Ok(())
+}
+
+/// Whether a right side is this operation of these operands.
+fn is_operation(rhs: &Rhs, code: Code, operands: &[Operand]) -> bool {
+    match rhs {
+        Rhs::Op(found, list) => *found == code && list.as_slice() == operands,
+        Rhs::Copy(_) => false,
+    }
+}
+
+#[test]
+fn blocks_are_made(rt: HostRuntime) -> Result<(), Fail> {
+    let Ok(functions) = read(rt.alloc(), MADE.as_bytes()) else {
+        assert!(rt; false);
+        return Ok(());
+    };
+    let (int, long) = (IntType::int(), IntType::long());
+    let (x, y) = (Operand::Name(1, int), Operand::Name(5, long));
+    let (shifted, nine) = (Operand::Name(2, int), Operand::Name(7, int));
+    for function in functions.as_slice() {
+        assert_eq!(rt; function.blocks.len(), 3);
+        for (at, block) in function.blocks.iter().enumerate() {
+            assert_eq!(rt; block.number, [2, 3, 30][at.min(2)]);
+            assert_eq!(rt; block.phis.len(), at / 2);
+            for phi in block.phis.as_slice() {
+                let args = [(2, x), (3, nine)];
+                assert!(rt; phi.name == 9 && phi.args.as_slice() == args.as_slice());
+            }
+            assert_eq!(rt; block.stmts.len(), 1);
+            for stmt in block.stmts.as_slice() {
+                let fits = match at {
+                    0 => stmt.name == 2 && is_operation(&stmt.rhs, Code::Lshift, &[x, y]),
+                    1 => stmt.name == 7 && matches!(stmt.rhs, Rhs::Copy(Operand::Const(_))),
+                    _ => {
+                        let merged = [Operand::Name(9, int)];
+                        stmt.name == 3 && is_operation(&stmt.rhs, Code::Convert, &merged)
+                    }
+                };
+                assert!(rt; fits, "{at}");
+            }
+            let seven = Operand::Const(Wide::reduce(7u128.wrapping_neg(), int));
+            let fits = match block.end {
+                End::If(Code::Lt, left, right, 3, 30) => {
+                    at == 0 && left == seven && right == shifted
+                }
+                End::Goto(30) => at == 1,
+                End::Return(operand) => at == 2 && operand == y,
+                _ => false,
+            };
+            assert!(rt; fits, "{at}");
+        }
     }
     Ok(())
 }

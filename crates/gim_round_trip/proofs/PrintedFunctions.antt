@@ -6,7 +6,7 @@ use Rattle.gim_text.specs.declared.tree.FunctionText.{FunctionText}
 use Rattle.gim_names.specs.NamesFault.{names_fault}
 use Rattle.gim_shape.specs.Shape.{shape_fault}
 use Rattle.gim_limits.specs.Limits.{limits_fault}
-use Rattle.gim_making.specs.Types.{types_fault}
+use Rattle.gim_typing.specs.Types.{types_fault}
 use Rattle.gim_reader.specs.Files.{IsFile, rules_fault}
 use Rattle.gim_round_trip.specs.ReadBack.{MayBeReadBack}
 use Rattle.gim_round_trip.proofs.text.Files.{text_reads}
@@ -35,7 +35,8 @@ read_back fs may =
         trees = r.trees;
         spelled = r.spelled;
         kept = no_rule_broken source r.trees
-            (names_sound source r.trees fs written may.distinct) (shape_sound source r.trees fs written) (types_sound source r.trees fs written)
+            (names_sound source r.trees fs written may.distinct) (shape_sound source r.trees fs written)
+            (types_sound source r.trees fs written)
             (limits_sound source r.trees fs written);
         stand = trees_stand source r.trees fs written;
       };

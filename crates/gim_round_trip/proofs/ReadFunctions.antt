@@ -12,22 +12,24 @@ use Rattle.lexing.specs.Numbers.{number_below}
 use Rattle.gim_printer.specs.Printing.{text}
 use Rattle.gim_ast.specs.WellFormed.{same_text, all_distinct}
 use Rattle.lexing.proofs.NumberLemmas.{number_below_is}
+use Rattle.gim_text.specs.declared.limits.TheConstants.{BLOCK_LIMIT, NUMBER_LIMIT}
 use Rattle.gim_text.specs.declared.tree.FunctionText.{FunctionText}
-use Rattle.gim_names.specs.Kept.{KeepsNames}
+use Rattle.gim_names.specs.KeepsNames.{KeepsNames}
 use Rattle.gim_names.specs.NamesFault.{function_text}
-use Rattle.gim_names.proofs.Keeping.{each_keeps, functions_differ}
-use Rattle.gim_limits.specs.Kept.{KeepsLimits}
+use Rattle.gim_names.proofs.NamesKept.{each_keeps, functions_differ}
+use Rattle.gim_limits.specs.KeepsLimits.{KeepsLimits}
 use Rattle.gim_limits.proofs.LimitsKept.{limits_kept}
-use Rattle.gim_making.specs.Declarations.{declarations_of, number_of, number_limit}
+use Rattle.gim_typing.specs.Declarations.{declarations_of, number_of}
 use Rattle.gim_making.specs.Names.{AreNames, version_of, named_rows}
 use Rattle.gim_making.specs.Standing.{StandsFor, made}
 use Rattle.gim_making.specs.Trees.{block_of}
 use Rattle.gim_making.proofs.BoundsHold.{version_digits, row_digits, all_by, few_names}
-use Rattle.gim_making.proofs.Membership.{has_contains, from_map, all_from_has, each_has}
+use Rattle.gim_text.proofs.Membership.{has_contains, from_map, all_from_has, each_has}
 use Rattle.gim_making.proofs.SmallNumbers.{are_small}
-use Rattle.gim_making.proofs.Sound.{sound_files}
-use Rattle.gim_reader.specs.Files.{file_limit, IsFile}
-use Rattle.gim_reader.proofs.ReaderLemmas.{sound}
+use Rattle.gim_making.proofs.SoundFunctions.{sound_files}
+use Rattle.gim_reader.specs.declared.TheConstants.{FILE_LIMIT}
+use Rattle.gim_reader.specs.Files.{IsFile}
+use Rattle.gim_reader.proofs.Stages.{sound}
 use Rattle.gim_round_trip.specs.ReadBack.{IsWithinLimits, function_names, MayBeReadBack}
 use Rattle.gim_round_trip.proofs.tree.SmallNumbers.{AreSmallNumbers}
 use Rattle.gim_round_trip.proofs.tree.PairedLists.{beside_second, same_images}
@@ -35,14 +37,14 @@ use Rattle.gim_round_trip.proofs.tree.PairedLists.{beside_second, same_images}
 -- ---- numbers
 
 -- what is read as a number is below the limit
-number_small : (digits : List ℕ) → number_of digits < 1000000000
-number_small digits = by (number_below number_limit digits) refl where
-  by : (o : Option ℕ) → number_below number_limit digits ≡ o → unwrap_or o 0 < 1000000000
+number_small : (digits : List ℕ) → number_of digits < NUMBER_LIMIT
+number_small digits = by (number_below NUMBER_LIMIT digits) refl where
+  by : (o : Option ℕ) → number_below NUMBER_LIMIT digits ≡ o → unwrap_or o 0 < NUMBER_LIMIT
   by None is = omega arith
-  by (Some n) is = (number_below_is number_limit n digits (lit≤ tt) is).0
+  by (Some n) is = (number_below_is NUMBER_LIMIT n digits (lit≤ tt) is).0
 
-all_small : (ns : List ℕ) → AreSmallNumbers ns → list_all (λ n. nat_lt n 1000000000) ns ≡ true
-all_small ns small = all_from_has (λ n. nat_lt n 1000000000) ns (λ n there. lt-ltb n 1000000000 (small n there))
+all_small : (ns : List ℕ) → AreSmallNumbers ns → list_all (λ n. nat_lt n NUMBER_LIMIT) ns ≡ true
+all_small ns small = all_from_has (λ n. nat_lt n NUMBER_LIMIT) ns (λ n there. lt-ltb n NUMBER_LIMIT (small n there))
 
 -- ---- one function
 
@@ -52,25 +54,26 @@ module _ (source : List ℕ) (tree : FunctionText) (names : List NameRow) (kept 
   versions_small version there =
       let r = from_map version_of names version there in
       let digits = (row_digits source tree names kept (are_small source tree limits) are r.0 r.1).1 in
-      subst (λ n. n < 1000000000) (digits ∙ r.2) (number_small (version_digits r.0))
+      subst (λ n. n < NUMBER_LIMIT) (digits ∙ r.2) (number_small (version_digits r.0))
 
   numbers_small : AreSmallNumbers (map (λ (block : Block). block.number) (map (block_of (declarations_of source tree)) tree.blocks))
   numbers_small n there =
       let b = from_map (λ (block : Block). block.number) (map (block_of (declarations_of source tree)) tree.blocks) n there in
       let t = from_map (block_of (declarations_of source tree)) tree.blocks b.0 b.1 in
-      subst (λ m. m < 1000000000) (ap (λ (block : Block). block.number) t.2 ∙ b.2) (number_small _)
+      subst (λ m. m < NUMBER_LIMIT) (ap (λ (block : Block). block.number) t.2 ∙ b.2) (number_small _)
 
   made_within : IsWithinLimits (made source tree names)
   unfolding made
   made_within =
       let count : length (map (block_of (declarations_of source tree)) tree.blocks) ≡ length tree.blocks = length-map tree.blocks
       (block_of (declarations_of source tree)) in
-      let limit : length tree.blocks ≤ 2000 = limits.blocks in
+      let limit : length tree.blocks ≤ BLOCK_LIMIT = limits.blocks in
       record {
         blocks = omega (arith, count, limit);
         names = few_names source tree names kept (are_small source tree limits) limits are;
         versions = all_small (map version_of names) versions_small;
-        numbers = all_small (map (λ (block : Block). block.number) (map (block_of (declarations_of source tree)) tree.blocks)) numbers_small;
+        numbers = all_small (map (λ (block : Block). block.number)
+            (map (block_of (declarations_of source tree)) tree.blocks)) numbers_small;
       }
 
 name_stands : (source : List ℕ) (tree : FunctionText) (f : Function) → StandsFor source tree f → function_text source tree ≡ f.name
@@ -79,7 +82,7 @@ name_stands source tree f stands = sym (ap (λ (g : Function). g.name) stands.wh
 
 -- ---- the whole
 
-pub read_may_be_printed : (source : List ℕ) (fs : List Function) → IsFile source fs → length (text fs) ≤ file_limit → MayBeReadBack fs
+pub read_may_be_printed : (source : List ℕ) (fs : List Function) → IsFile source fs → length (text fs) ≤ FILE_LIMIT → MayBeReadBack fs
 read_may_be_printed source fs file short =
     let trees = file.from_tokens.trees in
     let stand = file.from_tokens.stand in

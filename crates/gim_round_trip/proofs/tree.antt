@@ -1,6 +1,5 @@
 -- What a tree that writes a function says of its parts, and that it stands for this function.
 pub mod DistinctTexts
-pub mod Filters
 pub mod FunctionParts
 pub mod Identifiers
 pub mod KnownNames

@@ -5,14 +5,15 @@ use Rattle.gim_ast.specs.declared.function.Function.{Function}
 use Rattle.gim_ast.specs.declared.function.NameRow.{NameRow}
 use Rattle.gim_printer.specs.Printing.{text}
 use Rattle.gim_ast.specs.WellFormed.{IsWellFormed, same_text, all_distinct, numbers_of}
-use Rattle.gim_reader.specs.Files.{file_limit}
+use Rattle.gim_text.specs.declared.limits.TheConstants.{BLOCK_LIMIT, NAME_LIMIT, NUMBER_LIMIT}
+use Rattle.gim_reader.specs.declared.TheConstants.{FILE_LIMIT}
 
 -- the limits of a function that is read
 pub record IsWithinLimits (f : Function) : Type 0 where
-  pub blocks : length f.blocks ≤ 2000
-  pub names : length f.names ≤ 20000
-  pub versions : IsTrue (list_all (λ version. nat_lt version 1000000000) (map (λ (row : NameRow). row.version) f.names))
-  pub numbers : IsTrue (list_all (λ number. nat_lt number 1000000000) (numbers_of f))
+  pub blocks : length f.blocks ≤ BLOCK_LIMIT
+  pub names : length f.names ≤ NAME_LIMIT
+  pub versions : IsTrue (list_all (λ version. nat_lt version NUMBER_LIMIT) (map (λ (row : NameRow). row.version) f.names))
+  pub numbers : IsTrue (list_all (λ number. nat_lt number NUMBER_LIMIT) (numbers_of f))
 
 abbrev pub function_names : List Function → List (List ℕ)
 function_names fs = map (λ (f : Function). f.name) fs
@@ -22,4 +23,4 @@ pub record MayBeReadBack (fs : List Function) : Type 0 where
   pub well_formed : AllByRecursion IsWellFormed fs
   pub within : AllByRecursion IsWithinLimits fs
   pub distinct : IsTrue (all_distinct same_text (function_names fs))
-  pub short : length (text fs) ≤ file_limit
+  pub short : length (text fs) ≤ FILE_LIMIT

@@ -1,6 +1,6 @@
-pub mod ListLemmas
-pub mod TableLemmas
-pub mod JudgingLemmas
-pub mod DistinctLemmas
-pub mod ShapeLemmas
+pub mod TextTables
+pub mod Judging
+pub mod DistinctTexts
+pub mod FaultsByTables
 pub mod ShapeKept
+pub mod PlacesWithoutFault

@@ -1,12 +1,10 @@
 -- The blocks of a function and the jumps between them. Blocks are told apart by the digits of their numbers.
-use Rattle.std.specs.Prelude.{ℕ, Bool, List, [], ◌∷◌, map, filter}
+use Rattle.std.specs.Prelude.{ℕ, Bool, List, map, filter}
 use Rattle.std.specs.List.{list_any}
-use Rattle.std.specs.Option.{option_map_or}
 use Rattle.gim_ast.specs.WellFormed.{same_text}
 use Rattle.pm_places.specs.declared.span.Span.{Span}
+use Rattle.gim_text.specs.Occurrences.{targets_in_end}
 use Rattle.gim_text.specs.declared.tree.BlockText.{BlockText}
-use Rattle.gim_text.specs.declared.tree.EndText.{EndText}
-use Rattle.gim_text.specs.declared.tree.EndText.TheVariants.{Goto, If, Return}
 use Rattle.gim_text.specs.Texts.{block_digits}
 use Rattle.pm_places.specs.Spans.{text_of}
 
@@ -22,15 +20,9 @@ number_of source block = text_of source block.number
 abbrev pub named_at : List ℕ → Span → List ℕ
 named_at source at = block_digits (text_of source at)
 
--- the `__BBn` of the jumps of an end
-abbrev pub jumps_of_end : EndText → List Span
-jumps_of_end (Goto at) = at ∷ []
-jumps_of_end (If comparison a b to otherwise) = to ∷ otherwise ∷ []
-jumps_of_end (Return a) = []
-
 -- the `__BBn` of the jumps of a block
 abbrev pub jumps_of : BlockText → List Span
-jumps_of block = option_map_or jumps_of_end block.end []
+jumps_of block = targets_in_end block.end
 
 -- the block jumps to the block of this number
 abbrev pub jumps_to : List ℕ → List ℕ → BlockText → Bool

@@ -2,4 +2,4 @@ pub mod Blocks
 pub mod Phis
 pub mod Shape
 pub mod Tables
-pub mod Kept
+pub mod HasShape

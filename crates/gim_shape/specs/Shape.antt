@@ -35,7 +35,8 @@ faults_among source blocks may block = block_faults source (is_among (numbers_of
 -- The places of the blocks before a `}`. The first is the entry, which has no phi; without a block the fault is at the `}`.
 abbrev pub body_faults : List ℕ → Span → List BlockText → List (Option GimpleFault)
 body_faults source close [] = Some (fault_at MissingBlock close) ∷ []
-body_faults source close (entry ∷ rest) = faults_among source (entry ∷ rest) false entry ++ flat_map (faults_among source (entry ∷ rest) true) rest
+body_faults source close (entry ∷ rest) =
+    faults_among source (entry ∷ rest) false entry ++ flat_map (faults_among source (entry ∷ rest) true) rest
 
 abbrev pub function_faults : List ℕ → FunctionText → List (Option GimpleFault)
 function_faults source function = body_faults source function.close function.blocks

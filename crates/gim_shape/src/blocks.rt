@@ -1,6 +1,7 @@
 //! Tables of a function's blocks: their numbers, and which blocks jump to which.
 
-ghost use Rattle.std.specs.Prelude.{◌≡◌, ◌++◌, ℕ, false, List, [], ◌∷◌, OnOk, IfOk, map, if◌then◌else◌};
+ghost use Rattle.std.specs.Prelude.{◌≡◌, ◌++◌, ℕ, false, List, [], ◌∷◌};
+ghost use Rattle.std.specs.Prelude.{OnOk, IfOk, map, if◌then◌else◌};
 ghost use Rattle.gim_ast.specs.WellFormed.{same_text};
 ghost use Rattle.pm_places.specs.Spans.{text_of};
 ghost use Rattle.gim_shape.specs.Blocks.{jumps_to, numbers_of, predecessors};
@@ -58,7 +59,8 @@ fn numbers<'a>(
 /// Takes out what the table has for a number.
 fn take_places<'a>(alloc: Global, jumps: &mut Jumps<'a>, to: &'a [u8]) -> Vec<Span>
     ensures places { result.items ≡ places_for jumps.old to.now }
-    ensures others { (q : List ℕ) → same_text to.now q ≡ false → places_for jumps.new q ≡ places_for jumps.old q }
+    ensures others { (q : List ℕ) → same_text to.now q ≡ false →
+        places_for jumps.new q ≡ places_for jumps.old q }
 {
     match jumps.remove(&to) {
         Some(places) => places,
@@ -73,7 +75,8 @@ fn put_jump<'a>(
     to: &'a [u8],
     from: Span,
 ) -> Result<(), OutOfMemory>
-    ensures { OnOk result ((q : List ℕ) → places_for jumps.new q ≡ places_for jumps.old q ++ (if same_text q to.now then from ∷ [] else [])) }
+    ensures { OnOk result ((q : List ℕ) → places_for jumps.new q ≡ places_for jumps.old q ++
+        (if same_text q to.now then from ∷ [] else [])) }
 {
     let mut places = take_places(alloc, jumps, to);
     places.push(from)?;
@@ -88,7 +91,8 @@ fn put_jumps<'a>(
     jumps: &mut Jumps<'a>,
     block: &BlockText,
 ) -> Result<(), OutOfMemory>
-    ensures { OnOk result ((q : List ℕ) → places_for jumps.new q ≡ places_for jumps.old q ++ (if jumps_to source.now q block.now then block.now.number ∷ [] else [])) }
+    ensures { OnOk result ((q : List ℕ) → places_for jumps.new q ≡ places_for jumps.old q ++
+        (if jumps_to source.now q block.now then block.now.number ∷ [] else [])) }
 {
     match block.end {
         Some(EndText::Goto(at)) => put_jump(alloc, jumps, named_at(source, at), block.number),
@@ -111,7 +115,8 @@ fn jumps<'a>(
     source: &'a [u8],
     blocks: &[BlockText],
 ) -> Result<Jumps<'a>, OutOfMemory>
-    ensures { IfOk result (λ jumps. (q : List ℕ) → places_for jumps q ≡ predecessors source.now blocks.now q) }
+    ensures { IfOk result (λ jumps. (q : List ℕ) →
+        places_for jumps q ≡ predecessors source.now blocks.now q) }
 {
     let mut jumps = HashMap::new(alloc);
     for block in blocks {

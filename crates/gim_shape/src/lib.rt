@@ -1,7 +1,8 @@
 //! The shape of GIMPLE functions.
 //!
-//! `check_shape` looks for a block without an end, a jump to no block and a phi that doesn't fit (`shape`, `phis`); `blocks` has
-//! the tables of numbers and jumps. It is run by the tests of gim_limits.
+//! `check_shape` looks for a block without an end, a jump to no block and a phi that doesn't fit
+//! (`shape`, `phis`); `blocks` has the tables of numbers and jumps. It is run by the tests of
+//! gim_limits.
 #![tactic(auto)]
 
 mod blocks;

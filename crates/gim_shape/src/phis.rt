@@ -7,7 +7,8 @@ ghost use Rattle.pm_places.specs.Spans.{text_of};
 ghost use Rattle.gim_text.specs.Faults.{Judges};
 ghost use Rattle.pm_places.specs.FirstFaults.{first_fault};
 ghost use Rattle.gim_shape.specs.Tables.{has_text, HasTexts};
-ghost use Rattle.gim_shape.specs.Phis.{is_each_once, named_by_args, args_fit, phi_fault, item_faults};
+ghost use Rattle.gim_shape.specs.Phis.{is_each_once, named_by_args};
+ghost use Rattle.gim_shape.specs.Phis.{args_fit, phi_fault, item_faults};
 
 use crate::blocks::texts_at;
 use crate::text::named_at;
@@ -23,7 +24,10 @@ fn distinct_numbers<'a>(
     source: &'a [u8],
     args: &[ArgText],
 ) -> Result<Option<HashSet<&'a [u8]>>, OutOfMemory>
-    ensures { IfOk result (λ found. MatchOption found (all_distinct same_text (named_by_args source.now args.now) ≡ false) (λ set. (all_distinct same_text (named_by_args source.now args.now) ≡ true) × HasTexts set (named_by_args source.now args.now))) }
+    ensures { IfOk result (λ found. MatchOption found
+        (all_distinct same_text (named_by_args source.now args.now) ≡ false)
+        (λ set. (all_distinct same_text (named_by_args source.now args.now) ≡ true) ×
+        HasTexts set (named_by_args source.now args.now))) }
 {
     let mut set = HashSet::new(alloc);
     for arg in args {
@@ -60,7 +64,8 @@ fn places_are_among<'a>(source: &'a [u8], set: &HashSet<&'a [u8]>, places: &[Spa
     true
 }
 
-/// Whether each argument names one of these numbers, and each number at the places is among those that the arguments name.
+/// Whether each argument names one of these numbers, and each number at the places is among those
+/// that the arguments name.
 fn are_the_same<'a>(
     source: &'a [u8],
     numbers: &HashSet<&'a [u8]>,
@@ -68,7 +73,8 @@ fn are_the_same<'a>(
     from: &[Span],
     args: &[ArgText],
 ) -> bool
-    ensures { result ≡ (list_all (has_text numbers.now) (named_by_args source.now args.now) && list_all (has_text named.now) (map (text_of source.now) from.now)) }
+    ensures { result ≡ (list_all (has_text numbers.now) (named_by_args source.now args.now) &&
+        list_all (has_text named.now) (map (text_of source.now) from.now)) }
 {
     args_are_among(source, numbers, args) && places_are_among(source, named, from)
 }
@@ -80,7 +86,8 @@ fn name_each_once(
     from: &[Span],
     args: &[ArgText],
 ) -> Result<bool, OutOfMemory>
-    ensures { IfOk result (λ fits. fits ≡ is_each_once (map (text_of source.now) from.now) (named_by_args source.now args.now)) }
+    ensures { IfOk result (λ fits. fits ≡
+        is_each_once (map (text_of source.now) from.now) (named_by_args source.now args.now)) }
 {
     let Some(named) = distinct_numbers(alloc, source, args)? else {
         return Ok(false);
@@ -89,7 +96,8 @@ fn name_each_once(
     Ok(are_the_same(source, &numbers, &named, from, args))
 }
 
-/// Whether there is one argument at least, and one for each of the blocks whose numbers stand at the places.
+/// Whether there is one argument at least, and one for each of the blocks whose numbers stand at
+/// the places.
 fn args_fit(
     alloc: Global,
     source: &[u8],
@@ -122,8 +130,8 @@ fn check_phi(
     }
 }
 
-/// Checks the phis among the items of a block, told whether it may have phis and where the numbers stand of the blocks that jump
-/// to it.
+/// Checks the phis among the items of a block, told whether it may have phis and where the numbers
+/// stand of the blocks that jump to it.
 pub(crate) fn check_items(
     alloc: Global,
     source: &[u8],

@@ -2,10 +2,10 @@
 
 ghost use Rattle.std.specs.Prelude.{◌≡◌, ◌++◌, ℕ, List, false, true, map};
 ghost use Rattle.std.specs.List.{flat_map};
+ghost use Rattle.gim_text.specs.Occurrences.{targets_in_end};
 ghost use Rattle.gim_text.specs.declared.tree.BlockText.{BlockText};
 ghost use Rattle.gim_text.specs.Faults.{Judges};
 ghost use Rattle.pm_places.specs.FirstFaults.{first_fault};
-ghost use Rattle.gim_shape.specs.Blocks.{jumps_of_end};
 ghost use Rattle.gim_shape.specs.Tables.{has_text, places_for, AreTables};
 ghost use Rattle.gim_shape.specs.Shape.{jump_fault, block_faults, function_faults, shape_fault};
 
@@ -39,7 +39,8 @@ fn check_end<'a>(
     numbers: &HashSet<&'a [u8]>,
     end: EndText,
 ) -> Result<(), GimpleFault>
-    ensures { Judges (first_fault (map (jump_fault source.now (has_text numbers.now)) (jumps_of_end end))) result }
+    ensures { Judges (first_fault (map (jump_fault source.now (has_text numbers.now))
+        (targets_in_end (Some end)))) result }
 {
     match end {
         EndText::Goto(at) => check_jump(source, numbers, at),
@@ -59,7 +60,8 @@ fn check_block<'a>(
     may: bool,
     block: &BlockText,
 ) -> Result<(), GimpleFault>
-    ensures { Judges (first_fault (block_faults source.now (has_text tables.now.numbers) (places_for tables.now.jumps) may block.now)) result }
+    ensures { Judges (first_fault (block_faults source.now (has_text tables.now.numbers)
+        (places_for tables.now.jumps) may block.now)) result }
 {
     let Some(end) = block.end else {
         return Err(GimpleFault::at(GimpleKind::NoReturn, block.head));
@@ -76,7 +78,9 @@ fn check_rest<'a>(
     tables: &Tables<'a>,
     rest: &[BlockText],
 ) -> Result<(), GimpleFault>
-    ensures { Judges (first_fault (flat_map (block_faults source.now (has_text tables.now.numbers) (places_for tables.now.jumps) true) rest.now)) result }
+    ensures { Judges (first_fault (flat_map
+        (block_faults source.now (has_text tables.now.numbers) (places_for tables.now.jumps) true)
+        rest.now)) result }
 {
     for block in rest {
         check_block(alloc, source, tables, true, block)?;
@@ -92,7 +96,10 @@ fn check_blocks<'a>(
     entry: &BlockText,
     rest: &[BlockText],
 ) -> Result<(), GimpleFault>
-    ensures { Judges (first_fault (block_faults source.now (has_text tables.now.numbers) (places_for tables.now.jumps) false entry.now ++ flat_map (block_faults source.now (has_text tables.now.numbers) (places_for tables.now.jumps) true) rest.now)) result }
+    ensures { Judges (first_fault (block_faults source.now (has_text tables.now.numbers)
+        (places_for tables.now.jumps) false entry.now ++
+        flat_map (block_faults source.now (has_text tables.now.numbers)
+        (places_for tables.now.jumps) true) rest.now)) result }
 {
     check_block(alloc, source, tables, false, entry)?;
     check_rest(alloc, source, tables, rest)
@@ -110,8 +117,9 @@ fn check_function(alloc: Global, source: &[u8], function: &FunctionText) -> Resu
     }
 }
 
-/// Checks the shape of functions: that each has a block and each block an end, that jumps lead to blocks, that phis stand before
-/// statements and not in the entry, and that each has one argument for each block that jumps to its block.
+/// Checks the shape of functions: that each has a block and each block an end, that jumps lead to
+/// blocks, that phis stand before statements and not in the entry, and that each has one argument
+/// for each block that jumps to its block.
 #[tactic(auto, unfolding(crate::specs::Shape::shape_fault))]
 pub fn check_shape(
     alloc: Global,

@@ -1,2 +1,5 @@
 pub mod NameLemmas
 pub mod OccurrenceLemmas
+pub mod Membership
+pub mod FrontsAndRests
+pub mod SameTexts

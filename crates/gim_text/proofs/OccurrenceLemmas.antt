@@ -1,5 +1,5 @@
 -- What filters find among what occurs in a function.
-use Rattle.std.proofs.Common.{◌≡◌, List, [], ◌∷◌, ◌++◌, map, Option, Some, None, refl, sym, ap, ◌∙◌}
+use Rattle.std.proofs.Common.{◌≡◌, List, [], ◌∷◌, ◌++◌, map, Option, Some, None, refl, ap, ◌∙◌}
 use Rattle.std.proofs.lemmas.List.{append-nil}
 use Rattle.std.proofs.lemmas.List.Elements.{filter_map-append}
 use Rattle.std.specs.List.{flat_map, filter_map, cons_option}
@@ -16,17 +16,24 @@ use Rattle.gim_text.specs.declared.tree.OperandText.TheVariants as operands
 use Rattle.gim_text.specs.declared.tree.EndText.{EndText}
 use Rattle.gim_text.specs.declared.occurrence.Occurrence.{Occurrence}
 use Rattle.gim_text.specs.declared.occurrence.Occurrence.TheVariants.{Parameter, Local, Block, Jump, Assigned, Used, Default, Constant}
-use Rattle.gim_text.specs.Occurrences.{occurrence_of_parameter, occurrence_of_local, occurrence_of_operand, occurrences_of_argument, operands_in_right, operands_in_end, targets_in_end, occurrences_of_right, occurrences_of_item, occurrences_of_end, occurrences_of_block, occurrences_of, operand_at, jump_at}
+use Rattle.gim_text.specs.Occurrences.{occurrence_of_parameter, occurrence_of_local, occurrence_of_operand}
+use Rattle.gim_text.specs.Occurrences.{occurrences_of_argument, operands_in_right, operands_in_end, targets_in_end}
+use Rattle.gim_text.specs.Occurrences.{occurrences_of_item, occurrences_of_end}
+use Rattle.gim_text.specs.Occurrences.{occurrences_of_block, occurrences_of, operand_at}
 
 -- ---- filters of lists
 
-pub filter_of_map : {M N X : Type 0} (says : N → Option X) (of : M → N) (xs : List M) → filter_map says (map of xs) ≡ filter_map (λ x. says (of x)) xs
+pub filter_of_map : {M N X : Type 0} (says : N → Option X) (of : M → N) (xs : List M)
+    → filter_map says (map of xs) ≡ filter_map (λ x. says (of x)) xs
 filter_of_map says of [] = refl
 filter_of_map says of (x ∷ xs) = ap (λ rest. cons_option (says (of x)) rest) (filter_of_map says of xs)
 
-pub filter_of_flat : {M N X : Type 0} (says : N → Option X) (part : M → List N) (xs : List M) → filter_map says (flat_map part xs) ≡ flat_map (λ x. filter_map says (part x)) xs
+pub filter_of_flat : {M N X : Type 0} (says : N → Option X) (part : M → List N) (xs : List M)
+    → filter_map says (flat_map part xs) ≡ flat_map (λ x. filter_map says (part x)) xs
 filter_of_flat says part [] = refl
-filter_of_flat says part (x ∷ xs) = filter_map-append says (part x) (flat_map part xs) ∙ ap (λ rest. filter_map says (part x) ++ rest) (filter_of_flat says part xs)
+filter_of_flat says part (x ∷ xs) =
+    filter_map-append says (part x) (flat_map part xs)
+    ∙ ap (λ rest. filter_map says (part x) ++ rest) (filter_of_flat says part xs)
 
 -- something that each says, or that none says
 pub each_says : {M X : Type 0} (text : M → X) (xs : List M) → filter_map (λ x. Some (text x)) xs ≡ map text xs
@@ -37,7 +44,8 @@ pub none_says : {M X : Type 0} (xs : List M) → filter_map {X = M} {Y = X} (λ 
 none_says [] = refl
 none_says (x ∷ xs) = none_says xs
 
-pub none_of_map : {M N X : Type 0} (says : N → Option X) (of : M → N) → ((x : M) → says (of x) ≡ None) → (xs : List M) → filter_map says (map of xs) ≡ []
+pub none_of_map : {M N X : Type 0} (says : N → Option X) (of : M → N) → ((x : M) → says (of x) ≡ None) → (xs : List M)
+    → filter_map says (map of xs) ≡ []
 none_of_map says of none_says_it [] = refl
 none_of_map says of none_says_it (x ∷ xs) = rw (none_says_it x, none_of_map says of none_says_it xs) refl
 
@@ -50,7 +58,9 @@ operand_back (operands.Literal literal) = refl
 
 pub operands_back : (xs : List OperandText) → filter_map operand_at (map occurrence_of_operand xs) ≡ xs
 operands_back [] = refl
-operands_back (a ∷ xs) = ap (λ o. cons_option o (filter_map operand_at (map occurrence_of_operand xs))) (operand_back a) ∙ ap (λ rest. a ∷ rest) (operands_back xs)
+operands_back (a ∷ xs) =
+    ap (λ o. cons_option o (filter_map operand_at (map occurrence_of_operand xs))) (operand_back a)
+    ∙ ap (λ rest. a ∷ rest) (operands_back xs)
 
 abbrev pub operand_in : ArgText → OperandText
 operand_in arg = arg.operand
@@ -58,24 +68,29 @@ operand_in arg = arg.operand
 pub operands_in_args : (args : List ArgText) → filter_map operand_at (flat_map occurrences_of_argument args) ≡ map operand_in args
 operands_in_args [] = refl
 operands_in_args (arg ∷ args) =
-    ap (λ o. cons_option o (filter_map operand_at (flat_map occurrences_of_argument args))) (operand_back arg.operand) ∙ ap (λ rest. arg.operand ∷ rest) (operands_in_args args)
+    ap (λ o. cons_option o (filter_map operand_at (flat_map occurrences_of_argument args))) (operand_back arg.operand)
+    ∙ ap (λ rest. arg.operand ∷ rest) (operands_in_args args)
 
 pub operands_at_end : (end : Option EndText) → filter_map operand_at (occurrences_of_end end) ≡ operands_in_end end
 operands_at_end end =
     filter_map-append operand_at (map occurrence_of_operand (operands_in_end end)) (map Jump (targets_in_end end))
     ∙ ap (λ xs. xs ++ filter_map operand_at (map Jump (targets_in_end end))) (operands_back (operands_in_end end))
-    ∙ ap (λ xs. operands_in_end end ++ xs) (none_of_map operand_at Jump (λ at. refl) (targets_in_end end)) ∙ append-nil (operands_in_end end)
+    ∙ ap (λ xs. operands_in_end end ++ xs) (none_of_map operand_at Jump (λ at. refl) (targets_in_end end))
+    ∙ append-nil (operands_in_end end)
 
 -- ---- what parameters and locals don't say
 
-pub said_in_blocks : {X : Type 0} (says : Occurrence → Option X) → ((at : Span) → says (Parameter at) ≡ None) → ((at : Span) → says (Local at) ≡ None) → (f : FunctionText)
+pub said_in_blocks : {X : Type 0} (says : Occurrence → Option X) → ((at : Span) → says (Parameter at) ≡ None)
+    → ((at : Span) → says (Local at) ≡ None) → (f : FunctionText)
     → filter_map says (occurrences_of f) ≡ flat_map (λ block. filter_map says (occurrences_of_block block)) f.blocks
 said_in_blocks says parameter local f =
     let front : filter_map says (map occurrence_of_parameter f.params ++ map occurrence_of_local f.decls) ≡ [] =
     filter_map-append says (map occurrence_of_parameter f.params) (map occurrence_of_local f.decls)
-    ∙ ap (λ xs. xs ++ filter_map says (map occurrence_of_local f.decls)) (none_of_map says occurrence_of_parameter (λ decl. parameter decl.ident) f.params)
+    ∙ ap (λ xs. xs ++ filter_map says (map occurrence_of_local f.decls))
+    (none_of_map says occurrence_of_parameter (λ decl. parameter decl.ident) f.params)
     ∙ none_of_map says occurrence_of_local (λ decl. local decl.ident) f.decls in
-    filter_map-append says (map occurrence_of_parameter f.params ++ map occurrence_of_local f.decls) (flat_map occurrences_of_block f.blocks)
+    filter_map-append says (map occurrence_of_parameter f.params ++ map occurrence_of_local f.decls)
+    (flat_map occurrences_of_block f.blocks)
     ∙ ap (λ xs. xs ++ filter_map says (flat_map occurrences_of_block f.blocks)) front ∙ filter_of_flat says occurrences_of_block f.blocks
 
 -- ---- what operands and jumps don't say
@@ -102,7 +117,8 @@ module _ {X : Type 0} (says : Occurrence → Option X) (h : IsSilent says) where
   pub no_end : (end : Option EndText) → filter_map says (occurrences_of_end end) ≡ []
   no_end end =
       filter_map-append says (map occurrence_of_operand (operands_in_end end)) (map Jump (targets_in_end end))
-      ∙ ap (λ xs. xs ++ filter_map says (map Jump (targets_in_end end))) (no_operands (operands_in_end end)) ∙ none_of_map says Jump h.jump (targets_in_end end)
+      ∙ ap (λ xs. xs ++ filter_map says (map Jump (targets_in_end end))) (no_operands (operands_in_end end))
+      ∙ none_of_map says Jump h.jump (targets_in_end end)
 
 -- ---- what only parameters, locals and blocks say
 
@@ -124,18 +140,22 @@ module _ {X : Type 0} (says : Occurrence → Option X) (h : IsOfHeads says) wher
   no_items : (items : List ItemText) → filter_map says (flat_map occurrences_of_item items) ≡ []
   no_items [] = refl
   no_items (item ∷ items) =
-      filter_map-append says (occurrences_of_item item) (flat_map occurrences_of_item items) ∙ ap (λ xs. xs ++ filter_map says (flat_map occurrences_of_item items)) (no_item item) ∙ no_items items
+      filter_map-append says (occurrences_of_item item) (flat_map occurrences_of_item items)
+      ∙ ap (λ xs. xs ++ filter_map says (flat_map occurrences_of_item items)) (no_item item) ∙ no_items items
 
   -- of a block, only its number
   of_block : (block : BlockText) → filter_map says (occurrences_of_block block) ≡ cons_option (says (Block block.number)) []
   of_block block = ap (cons_option (says (Block block.number)))
-      (filter_map-append says (flat_map occurrences_of_item block.items) (occurrences_of_end block.end) ∙ ap (λ xs. xs ++ filter_map says (occurrences_of_end block.end)) (no_items block.items) ∙ no_end says silent block.end)
+      (filter_map-append says (flat_map occurrences_of_item block.items) (occurrences_of_end block.end)
+      ∙ ap (λ xs. xs ++ filter_map says (occurrences_of_end block.end)) (no_items block.items)
+      ∙ no_end says silent block.end)
 
   one_first : (o : Option X) (xs : List X) → cons_option o [] ++ xs ≡ cons_option o xs
   one_first None xs = refl
   one_first (Some x) xs = refl
 
-  of_blocks : (blocks : List BlockText) → filter_map says (flat_map occurrences_of_block blocks) ≡ filter_map (λ (block : BlockText). says (Block block.number)) blocks
+  of_blocks : (blocks : List BlockText) → filter_map says (flat_map occurrences_of_block blocks)
+      ≡ filter_map (λ (block : BlockText). says (Block block.number)) blocks
   of_blocks [] = refl
   of_blocks (block ∷ blocks) =
       filter_map-append says (occurrences_of_block block) (flat_map occurrences_of_block blocks)
@@ -144,11 +164,16 @@ module _ {X : Type 0} (says : Occurrence → Option X) (h : IsOfHeads says) wher
       ∙ one_first (says (Block block.number)) (filter_map (λ (b : BlockText). says (Block b.number)) blocks)
 
   pub said_at_heads : (f : FunctionText) → filter_map says (occurrences_of f)
-      ≡ (filter_map (λ (decl : DeclText). says (Parameter decl.ident)) f.params ++ filter_map (λ (decl : DeclText). says (Local decl.ident)) f.decls) ++ filter_map (λ (block : BlockText). says (Block block.number)) f.blocks
+      ≡ (filter_map (λ (decl : DeclText). says (Parameter decl.ident)) f.params
+      ++ filter_map (λ (decl : DeclText). says (Local decl.ident)) f.decls)
+      ++ filter_map (λ (block : BlockText). says (Block block.number)) f.blocks
   said_at_heads f =
-      filter_map-append says (map occurrence_of_parameter f.params ++ map occurrence_of_local f.decls) (flat_map occurrences_of_block f.blocks)
+      filter_map-append says (map occurrence_of_parameter f.params ++ map occurrence_of_local f.decls)
+      (flat_map occurrences_of_block f.blocks)
       ∙ ap (λ xs. xs ++ filter_map says (flat_map occurrences_of_block f.blocks))
       (filter_map-append says (map occurrence_of_parameter f.params) (map occurrence_of_local f.decls)
       ∙ ap (λ xs. xs ++ filter_map says (map occurrence_of_local f.decls)) (filter_of_map says occurrence_of_parameter f.params)
-      ∙ ap (λ xs. filter_map (λ (decl : DeclText). says (Parameter decl.ident)) f.params ++ xs) (filter_of_map says occurrence_of_local f.decls))
-      ∙ ap (λ xs. (filter_map (λ (decl : DeclText). says (Parameter decl.ident)) f.params ++ filter_map (λ (decl : DeclText). says (Local decl.ident)) f.decls) ++ xs) (of_blocks f.blocks)
+      ∙ ap (λ xs. filter_map (λ (decl : DeclText). says (Parameter decl.ident)) f.params ++ xs)
+      (filter_of_map says occurrence_of_local f.decls))
+      ∙ ap (λ xs. (filter_map (λ (decl : DeclText). says (Parameter decl.ident)) f.params
+      ++ filter_map (λ (decl : DeclText). says (Local decl.ident)) f.decls) ++ xs) (of_blocks f.blocks)

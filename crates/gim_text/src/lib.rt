@@ -1,10 +1,12 @@
-//! GIMPLE text between its bytes and its functions: tokens with their places, and trees of what is written.
+//! GIMPLE text between its bytes and its functions: tokens with their places, and trees of what is
+//! written.
 //!
-//! The tokens are what the lexer gives (`token`), the trees what the grammar makes of them (`tree`). Both keep
-//! places in the source, never bytes.
+//! The tokens are what the lexer gives (`token`), the trees what the grammar makes of them
+//! (`tree`). Both keep places in the source, never bytes.
 #![tactic(auto)]
 
 mod fault;
+mod limits;
 mod literals;
 mod meaning;
 mod occurrence;
@@ -15,6 +17,7 @@ mod token;
 mod tree;
 
 pub use fault::{GimpleFault, GimpleKind, TokenFault, TokenStop};
+pub use limits::{BLOCK_LIMIT, NAME_LIMIT, NUMBER_LIMIT};
 pub use literals::{constant, literal};
 pub use meaning::{block_word, identifier, keyword, mark, number, type_word};
 pub use occurrence::{Occurrence, block_at, name_at, occurrences};

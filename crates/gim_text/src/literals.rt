@@ -56,7 +56,8 @@ fn word_in(negative: bool, size: Option<u128>, ty: IntType) -> Option<Wide>
     Some(Wide::reduce(bits, ty))
 }
 
-/// The word at a type of the number of these digits with its sign, where it is a value of that type.
+/// The word at a type of the number of these digits with its sign, where it is a value of that
+/// type.
 pub fn constant(negative: bool, digits: &[u8], ty: IntType) -> Option<Wide>
     ensures { result ≡ word_in ty (signed negative (number_after 0 digits.now)) }
 {

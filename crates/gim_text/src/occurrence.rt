@@ -2,7 +2,12 @@
 
 ghost use Rattle.std.specs.Prelude.{◌≡◌, [], ◌∷◌, ◌++◌, map, IfOk, OnOk};
 ghost use Rattle.std.specs.List.{flat_map};
-ghost use Rattle.gim_text.specs.Occurrences.{place_of, occurrence_of_parameter, occurrence_of_local, occurrence_of_operand, occurrences_of_argument, occurrences_of_right, occurrences_of_item, occurrences_of_end, occurrences_of_block, occurrences_of, name_at, block_at};
+ghost use Rattle.gim_text.specs.Occurrences.{place_of, occurrence_of_parameter};
+ghost use Rattle.gim_text.specs.Occurrences.{occurrence_of_local, occurrence_of_operand};
+ghost use Rattle.gim_text.specs.Occurrences.{occurrences_of_argument, occurrences_of_right};
+ghost use Rattle.gim_text.specs.Occurrences.{occurrences_of_item, occurrences_of_end};
+ghost use Rattle.gim_text.specs.Occurrences.{occurrences_of_block, occurrences_of, name_at};
+ghost use Rattle.gim_text.specs.Occurrences.{block_at};
 ghost use Rattle.gim_ast.specs.Identifiers.{is_anonymous};
 
 use crate::tree::{

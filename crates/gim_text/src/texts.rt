@@ -1,6 +1,7 @@
 //! Names by their bytes.
 
-ghost use Rattle.std.specs.Prelude.{◌≡◌, ◌≤◌, ◌<◌, ◌-◌, length, drop, option_map, slice_index, true, false};
+ghost use Rattle.std.specs.Prelude.{◌≡◌, ◌≤◌, ◌<◌, ◌-◌, length, drop};
+ghost use Rattle.std.specs.Prelude.{option_map, slice_index, true, false};
 ghost use Rattle.std.specs.List.{list_all};
 ghost use Rattle.lexing.specs.Bytes.{is_digit};
 ghost use Rattle.gim_text.specs.Texts.{name_parts};
@@ -20,7 +21,8 @@ fn last_digits(bytes: &[u8]) -> usize
     at
 }
 
-/// The base and the version of a name: what stands before its last underscore, and the digits after it.
+/// The base and the version of a name: what stands before its last underscore, and the digits after
+/// it.
 ///
 /// None where the text does not end in an underscore and a number without a leading zero.
 pub fn name_parts(text: &[u8]) -> Option<(&[u8], &[u8])>

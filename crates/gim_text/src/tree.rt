@@ -1,4 +1,5 @@
-//! Trees of what is written, a type for each line of the grammar. Each leaf keeps its place in the source.
+//! Trees of what is written, a type for each line of the grammar. Each leaf keeps its place in the
+//! source.
 
 use pm_items::Items;
 use pm_ops::Code;

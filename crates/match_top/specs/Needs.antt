@@ -4,6 +4,7 @@ use Rattle.gim_ast.specs.declared.function.Function.{Function}
 use Rattle.first_patterns.specs.declared.row.Row.{Row}
 use Rattle.first_patterns.specs.FirstForm.{SpellsFile}
 use Rattle.first_gimple.specs.Meaning.{IsFirstForm}
+use Rattle.match_top.specs.declared.needs.TheConstants.{PATTERNS_LIMIT}
 use Rattle.match_top.specs.Functions as functions
 use Rattle.match_top.specs.Refusals.{fault_text}
 use Rattle.match_top.specs.declared.needs.Kind.{Kind}
@@ -11,6 +12,7 @@ use Rattle.match_top.specs.declared.needs.Kind.TheVariants.{Patterns, FirstForm,
 use Rattle.match_top.specs.declared.patterns.PatternFile.{PatternFile}
 use Rattle.match_top.specs.declared.status.Cause.{Cause}
 use Rattle.match_top.specs.declared.status.Cause.TheVariants.{BadPatterns, BadFunctions}
+use Rattle.gim_reader.specs.declared.TheConstants.{FILE_LIMIT}
 
 -- a file: its kind and its name
 pub record Need : Type 0 where
@@ -32,9 +34,9 @@ head_of Functions = codes "gimple"
 
 -- the greatest length, and the word for a file with more bytes
 abbrev pub limit_of : Kind → ℕ
-limit_of Patterns = 4194304
-limit_of FirstForm = 16777216
-limit_of Functions = 16777216
+limit_of Patterns = PATTERNS_LIMIT
+limit_of FirstForm = FILE_LIMIT
+limit_of Functions = FILE_LIMIT
 
 abbrev pub too_long_word : Kind → List ℕ
 too_long_word Patterns = codes "TooLong"

@@ -3,6 +3,10 @@ ghost use Rattle.std.specs.Prelude.{◌≡◌, ◌<◌, ◌^◌};
 ghost use Rattle.match_top.specs.Needs.{cause_of, head_of, limit_of, too_long_word};
 
 use crate::status::Cause;
+use gim_reader::FILE_LIMIT;
+
+/// The greatest length of a pattern file.
+const PATTERNS_LIMIT: usize = 4_194_304;
 
 /// A kind of file.
 #[derive(Clone, Copy, Debug, PartialEq, Eq)]
@@ -42,8 +46,8 @@ impl Kind {
         ensures short { result < 2 ^ 31 }
     {
         match self {
-            Kind::Patterns => 4_194_304,
-            Kind::FirstForm | Kind::Functions => 16_777_216,
+            Kind::Patterns => PATTERNS_LIMIT,
+            Kind::FirstForm | Kind::Functions => FILE_LIMIT,
         }
     }
 

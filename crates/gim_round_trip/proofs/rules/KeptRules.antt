@@ -5,9 +5,8 @@ use Rattle.std.specs.List.{list_any, filter_map, cons_option}
 use Rattle.std.proofs.lemmas.Bool.{and_parts, or_parts, or_from, not-true, false≢true}
 use Rattle.gim_ast.specs.WellFormed.{same_text, all_distinct}
 use Rattle.gim_names.specs.Rules.{stands, differs, has_other_second}
-use Rattle.gim_names.proofs.TableLemmas.{same_text_symm}
-use Rattle.gim_making.proofs.Membership.{Has, none_from_has, has_said, from_said}
-use Rattle.gim_making.proofs.PartLemmas.{text_itself, same_text_is}
+use Rattle.gim_text.proofs.SameTexts.{same_text_symm, same_text_itself, same_text_is}
+use Rattle.gim_text.proofs.Membership.{Has, none_from_has, has_said, from_said}
 
 -- the rule is broken at no element
 abbrev pub NeverBy : {X : Type 0} → (List X → X → Bool) → List X → List X → Type 0
@@ -38,7 +37,8 @@ pub never_among : {X : Type 0} (broken : List X → X → Bool) (all : List X)
 never_among broken all kept = never_within broken all kept [] all (λ y there. absurd there) (λ y there. there)
 
 -- a rule that looks at none before
-pub never_each : {X : Type 0} (broken : X → Bool) (all : List X) → ((x : X) → Has all x → broken x ≡ false) → NeverBy (λ b x. broken x) [] all
+pub never_each : {X : Type 0} (broken : X → Bool) (all : List X) → ((x : X) → Has all x → broken x ≡ false)
+    → NeverBy (λ b x. broken x) [] all
 never_each broken all kept = never_among (λ b x. broken x) all (λ before x within there. kept x there)
 
 -- ---- nothing is said again
@@ -104,7 +104,7 @@ never_differs says all agree = never_among (λ b m. differs (says m) (filter_map
       alike : (p q : List ℕ × List ℕ) → (p.0 ≡ q.0 → p.1 ≡ q.1) → has_other_second p.0 p.1 q ≡ true → ⊥
       alike p q one other =
           let h = and_parts (same_text p.0 q.0) (not (same_text p.1 q.1)) other in
-          false≢true (ap not (sym (ap (same_text p.1) (sym (one (same_text_is p.0 q.0 h.0))) ∙ text_itself p.1)) ∙ h.1)
+          false≢true (ap not (sym (ap (same_text p.1) (sym (one (same_text_is p.0 q.0 h.0))) ∙ same_text_itself p.1)) ∙ h.1)
 
       by : (before : List _) (m : _) → ((n : _) → Has before n → Has all n) → Has all m → (o : Option (List ℕ × List ℕ)) → says m ≡ o
           → differs o (filter_map says before) ≡ false

@@ -14,7 +14,9 @@ use Rattle.pm_places.specs.FirstFaults.{or_fault, first_by}
 use Rattle.gim_text.specs.Occurrences.{place_of, occurrences_of}
 use Rattle.gim_text.proofs.OccurrenceLemmas.{each_says}
 use Rattle.gim_names.specs.Rules.{stands, is_redefined, is_undeclared, is_wide}
-use Rattle.gim_names.specs.NamesFault.{first_kind, occurrence_fault, occurrences_fault, function_text, second_function, function_fault, names_fault}
+use Rattle.gim_names.specs.NamesFault.{first_kind, occurrence_fault, occurrences_fault}
+use Rattle.gim_names.specs.NamesFault.{function_text, second_function, function_fault}
+use Rattle.gim_names.specs.NamesFault.{names_fault}
 use Rattle.gim_round_trip.specs.ReadBack.{function_names}
 use Rattle.gim_round_trip.proofs.rules.KeptRules.{NeverBy, never_twice}
 use Rattle.gim_round_trip.proofs.rules.Redefined.{never_redefined}
@@ -66,7 +68,8 @@ no_function_fault source before [] fs written new = refl
 no_function_fault source before (tree ∷ trees) [] written new = absurd written
 no_function_fault source before (tree ∷ trees) (f ∷ fs) written new =
     none_of_two (function_fault source before tree) (first_by (function_fault source) (tree ∷ before) trees)
-    (none_of_two (second_function source before tree) (occurrences_fault source (occurrences_of tree)) (first_of_name source before tree new.0)
+    (none_of_two (second_function source before tree) (occurrences_fault source (occurrences_of tree))
+    (first_of_name source before tree new.0)
     (occurrences_sound source tree f written.0))
     (no_function_fault source (tree ∷ before) trees fs written.1 new.1)
 

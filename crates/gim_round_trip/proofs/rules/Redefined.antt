@@ -14,12 +14,15 @@ use Rattle.gim_text.specs.declared.tree.FunctionText.{FunctionText}
 use Rattle.gim_text.specs.Occurrences.{occurrences_of, name_at}
 use Rattle.gim_text.specs.Texts.{name_parts}
 use Rattle.pm_places.specs.Spans.{text_of}
-use Rattle.gim_names.specs.Parts.{version_in, turned, anonymous_parts, declared_text, block_number, assigned_version, plain_version, default_version, version_base, base_default}
-use Rattle.gim_names.specs.Rules.{stands, is_declared_again, is_assigned_again, has_other_base, has_other_mark, has_other_default, is_repeated, is_marked_otherwise, is_contradicted, is_redefined}
+use Rattle.gim_names.specs.OccurrenceTexts.{version_in, turned, anonymous_parts, declared_text, block_number}
+use Rattle.gim_names.specs.OccurrenceTexts.{assigned_version, plain_version, default_version, version_base}
+use Rattle.gim_names.specs.OccurrenceTexts.{base_default}
+use Rattle.gim_names.specs.Rules.{stands, is_declared_again, is_assigned_again, has_other_base, has_other_mark}
+use Rattle.gim_names.specs.Rules.{has_other_default, is_repeated, is_marked_otherwise, is_contradicted, is_redefined}
 use Rattle.gim_making.specs.Names.{is_default}
-use Rattle.gim_making.proofs.Membership.{Has, from_said}
-use Rattle.gim_making.proofs.NameRowLemmas.{one_of_version}
-use Rattle.gim_making.proofs.PartLemmas.{some_is, bare_is_anonymous}
+use Rattle.gim_text.proofs.Membership.{Has, from_said}
+use Rattle.gim_making.proofs.NameRows.{one_of_version}
+use Rattle.gim_making.proofs.NameParts.{some_is, bare_is_anonymous}
 use Rattle.gim_round_trip.proofs.rules.KeptRules.{NeverBy, never_either, never_twice, never_both, never_differs}
 use Rattle.gim_round_trip.proofs.tree.DistinctTexts.{one_of}
 use Rattle.gim_round_trip.proofs.tree.OccurringTexts.{declared_said, numbers_said, versions_said}
@@ -34,7 +37,8 @@ use Rattle.gim_round_trip.proofs.tree.Writes.{WritesWell}
 -- no two default definitions have one base
 one_default : (rows : List NameRow) → all_distinct same_text (initial_bases rows) ≡ true → (a b : NameRow) → Has rows a → Has rows b
     → a.initial ≡ true → b.initial ≡ true → a.base ≡ b.base → a ≡ b
-one_default rows distinct a b p q first second bases = one_of (λ (row : NameRow). cond row.initial (row.base ∷ []) []) rows distinct a b b.base p q
+one_default rows distinct a b p q first second bases =
+    one_of (λ (row : NameRow). cond row.initial (row.base ∷ []) []) rows distinct a b b.base p q
     (subst (λ i. Has (cond i (a.base ∷ []) []) b.base) (sym first) (inl bases))
     (subst (λ i. Has (cond i (b.base ∷ []) []) b.base) (sym second) (inl refl))
 
@@ -74,7 +78,8 @@ default_place source o p e = absurd cc
 
 module _ (source : List ℕ) (tree : FunctionText) (f : Function) (w : WritesWell source tree f) where
   -- the name that an occurrence of the tree is
-  named : (o : Occurrence) (at : Span) → Has (occurrences_of tree) o → name_at source o ≡ Some at → (row : NameRow) × IsNameOf source f o at row
+  named : (o : Occurrence) (at : Span) → Has (occurrences_of tree) o → name_at source o ≡ Some at → (row : NameRow)
+      × IsNameOf source f o at row
   named o at there place = name_of source tree f w o at (occurrence_is source tree f w o there) place
 
   -- rows of one version are one
@@ -99,24 +104,39 @@ module _ (source : List ℕ) (tree : FunctionText) (f : Function) (w : WritesWel
   plain_said x there =
       let o = from_said (plain_version source) (occurrences_of tree) x there in
       let place = plain_place source o.0 x o.2 in
-      let name = named o.0 place.0 o.1 place.1 in
-      (name.0, name.1.name.in_names, sym name.1.mark ∙ place.3, some_is x (decimal name.0.version) (sym place.2 ∙ ap version_in name.1.name.parts))
+      let name = named o.0 place.0 o.1 place.1 in (
+        name.0,
+        name.1.name.in_names,
+        sym name.1.mark
+            ∙ place.3,
+        some_is x (decimal name.0.version) (sym place.2 ∙ ap version_in name.1.name.parts),
+      )
 
   marked_said : (x : List ℕ) → Has (filter_map (default_version source) (occurrences_of tree)) x → IsVersion true x
   unfolding IsVersion
   marked_said x there =
       let o = from_said (default_version source) (occurrences_of tree) x there in
       let place = marked_place source o.0 x o.2 in
-      let name = named o.0 place.0 o.1 place.1 in
-      (name.0, name.1.name.in_names, sym name.1.mark ∙ place.3, some_is x (decimal name.0.version) (sym place.2 ∙ ap version_in name.1.name.parts))
+      let name = named o.0 place.0 o.1 place.1 in (
+        name.0,
+        name.1.name.in_names,
+        sym name.1.mark
+            ∙ place.3,
+        some_is x (decimal name.0.version) (sym place.2 ∙ ap version_in name.1.name.parts),
+      )
 
   default_said : (p : List ℕ × List ℕ) → Has (filter_map (base_default source) (occurrences_of tree)) p
       → (row : NameRow) × Has f.names row × (row.initial ≡ true) × (p ≡ (row.base, decimal row.version))
   default_said p there =
       let o = from_said (base_default source) (occurrences_of tree) p there in
       let place = default_place source o.0 p o.2 in
-      let name = named o.0 place.0 o.1 place.1 in
-      (name.0, name.1.name.in_names, sym name.1.mark ∙ place.3, some_is p (name.0.base, decimal name.0.version) (sym place.2 ∙ name.1.name.parts))
+      let name = named o.0 place.0 o.1 place.1 in (
+        name.0,
+        name.1.name.in_names,
+        sym name.1.mark
+            ∙ place.3,
+        some_is p (name.0.base, decimal name.0.version) (sym place.2 ∙ name.1.name.parts),
+      )
 
   -- a version is that of a default definition or of none
   marks_apart : (x y : List ℕ) → IsVersion false x → IsVersion true y → x ≡ y → ⊥
@@ -141,7 +161,8 @@ module _ (source : List ℕ) (tree : FunctionText) (f : Function) (w : WritesWel
       let small : AreSmallNumbers (assigned f) = λ x there. let row = assigned_row f w.well x there in
       (name_facts f x row.0 w.well w.within row.1).small in
       never_twice (assigned_version source) (occurrences_of tree)
-      (ap (all_distinct same_text) (versions_said source tree f w) ∙ distinct_decimals (assigned f) small ∙ (of_names f w.well).assigned_once)
+      (ap (all_distinct same_text) (versions_said source tree f w) ∙ distinct_decimals (assigned f) small
+      ∙ (of_names f w.well).assigned_once)
 
   never_other_base : NeverBy (has_other_base source) [] (occurrences_of tree)
   never_other_base = never_differs (version_base source) (occurrences_of tree) (λ p q first second same.
@@ -166,7 +187,8 @@ module _ (source : List ℕ) (tree : FunctionText) (f : Function) (w : WritesWel
       let b = default_said q second in
       let rows = one_default f.names (of_names f w.well).initials a.0 b.0 a.1 b.1 a.2 b.2
       (sym (ap (λ (r : List ℕ × List ℕ). r.0) a.3) ∙ same ∙ ap (λ (r : List ℕ × List ℕ). r.0) b.3) in
-      ap (λ (r : List ℕ × List ℕ). r.1) a.3 ∙ ap (λ (row : NameRow). decimal row.version) rows ∙ sym (ap (λ (r : List ℕ × List ℕ). r.1) b.3))
+      ap (λ (r : List ℕ × List ℕ). r.1) a.3 ∙ ap (λ (row : NameRow). decimal row.version) rows
+      ∙ sym (ap (λ (r : List ℕ × List ℕ). r.1) b.3))
 
   pub never_redefined : NeverBy (is_redefined source) [] (occurrences_of tree)
   never_redefined =

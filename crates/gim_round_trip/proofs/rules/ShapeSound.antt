@@ -1,8 +1,8 @@
 -- No rule of shape is broken by trees that write well-formed functions.
-use Rattle.std.proofs.Common.{◌≡◌, ℕ, ◌<◌, Bool, true, false, cond, Option, Some, None, List, [], ◌∷◌, ◌++◌, map, refl, sym, ap, ◌∙◌, inl, inr}
+use Rattle.std.proofs.Common.{◌≡◌, ℕ, ◌<◌, Bool, true, false, cond, Option, Some, None}
+use Rattle.std.proofs.Common.{List, [], ◌∷◌, ◌++◌, map, refl, sym, ap, ◌∙◌, inl, inr}
 use Rattle.std.specs.Prelude.{◌==◌, ◌||◌, filter}
 use Rattle.std.specs.List.{AllZip, flat_map, list_any, list_all}
-use Rattle.std.specs.Option.{option_map_or}
 use Rattle.std.specs.Fmt.{decimal}
 use Rattle.std.proofs.lemmas.Bool.{and_parts, and_from, false≢true}
 use Rattle.pm_wide.specs.declared.operand.Operand.{Operand}
@@ -16,6 +16,8 @@ use Rattle.gim_ast.specs.Functions.{targets_of}
 use Rattle.gim_ast.specs.WellFormed as ast
 use Rattle.gim_ast.specs.WellFormed.{IsWellFormed, same_text, all_distinct, is_empty, entry_has_no_phi, phi_blocks, phi_holds, numbers_of}
 use Rattle.pm_places.specs.declared.span.Span.{Span}
+use Rattle.gim_text.specs.Occurrences.{targets_in_end}
+use Rattle.gim_text.specs.declared.limits.TheConstants.{NUMBER_LIMIT}
 use Rattle.gim_text.specs.declared.tree.ArgText.{ArgText}
 use Rattle.gim_text.specs.declared.tree.BlockText.{BlockText}
 use Rattle.gim_text.specs.declared.tree.EndText.{EndText}
@@ -26,14 +28,16 @@ use Rattle.gim_text.specs.declared.tree.ItemText.TheVariants as items
 use Rattle.pm_places.specs.FirstFaults.{first_fault}
 use Rattle.pm_places.specs.Spans.{text_of}
 use Rattle.gim_shape.specs.Blocks as shape
-use Rattle.gim_shape.specs.Blocks.{number_of, named_at, jumps_of_end, jumps_of, jumps_to, predecessors}
+use Rattle.gim_shape.specs.Blocks.{number_of, named_at, jumps_of, jumps_to, predecessors}
 use Rattle.gim_shape.specs.Phis.{named_by_args, has_args, is_each_once, args_fit, item_faults}
 use Rattle.gim_shape.specs.Shape.{end_fault, jump_fault, faults_among, body_faults, function_faults, shape_fault}
-use Rattle.gim_making.proofs.Membership.{Has, has_flat, all_has, all_from_has}
-use Rattle.gim_round_trip.proofs.tree.SmallNumbers.{AreSmallNumbers, numbers_small, number_small, predecessors_small, targets_small, phi_blocks_small, among_decimals, distinct_decimals, all_among_decimals, images_are_decimals}
+use Rattle.gim_text.proofs.Membership.{Has, has_flat, all_has, all_from_has}
+use Rattle.gim_round_trip.proofs.tree.SmallNumbers.{AreSmallNumbers, numbers_small, number_small, predecessors_small}
+use Rattle.gim_round_trip.proofs.tree.SmallNumbers.{targets_small, phi_blocks_small, among_decimals, distinct_decimals}
+use Rattle.gim_round_trip.proofs.tree.SmallNumbers.{all_among_decimals, images_are_decimals}
 use Rattle.gim_round_trip.proofs.tree.WellFormedParts.{of_blocks, phi_rules}
 use Rattle.gim_round_trip.proofs.tree.PairedLists.{beside_first}
-use Rattle.gim_round_trip.proofs.rules.PlacesWithoutFault.{none_joined, none_of_each}
+use Rattle.gim_shape.proofs.PlacesWithoutFault.{none_joined, none_of_each}
 use Rattle.gim_round_trip.proofs.tree.Writes.{WritesArg, WritesPhi, WritesStmt, WritesEnd, WritesBlock, WritesWell}
 
 -- ---- jumps
@@ -45,7 +49,7 @@ end_is_there source f at (Some tree) end h = refl
 
 -- the jumps of an end name its targets
 jumps_named : (source : List ℕ) (f : Function) (tree : Option EndText) (end : End) → WritesEnd source f tree end
-    → map (named_at source) (option_map_or jumps_of_end tree []) ≡ map decimal (targets_of end)
+    → map (named_at source) (targets_in_end tree) ≡ map decimal (targets_of end)
 jumps_named source f (Some (Goto to)) (ends.Goto n) h = rw h refl
 jumps_named source f (Some (If code a b to otherwise)) (ends.If op x y m n) h = rw (h.3, h.4) refl
 jumps_named source f (Some (Return a)) (ends.Return x) h = refl
@@ -74,7 +78,9 @@ stmts_free source f from may (items.Phi name args ∷ texts) (stmt ∷ stmts) wr
 stmts_free source f from may (items.Stmt name right ∷ texts) (stmt ∷ stmts) written = stmts_free source f from false texts stmts written.1
 
 abbrev Fit : List ℕ → Function → List Span → List Phi → Type 0
-Fit source f from phis = (args : List ArgText) (phi : Phi) → Has phis phi → AllZip (WritesArg source f) args phi.args → args_fit source from args
+Fit source f from phis =
+    (args : List ArgText) (phi : Phi) → Has phis phi → AllZip (WritesArg source f) args phi.args
+    → args_fit source from args
     ≡ true
 
 phis_free : (source : List ℕ) (f : Function) (from : List Span) (texts later : List ItemText) (phis : List Phi)
@@ -87,7 +93,8 @@ phis_free source f from (items.Phi name args ∷ texts) later (phi ∷ phis) wri
     rw (fit args phi (inl refl) written.0.1) (phis_free source f from texts later phis written.1 (λ a p there. fit a p (inr there)) free)
 
 -- items of which only statements stand where no phi may
-items_free : (source : List ℕ) (f : Function) (from : List Span) (may : Bool) (texts later : List ItemText) (phis : List Phi) (stmts : List Stmt)
+items_free : (source : List ℕ) (f : Function) (from : List Span) (may : Bool) (texts later : List ItemText)
+    (phis : List Phi) (stmts : List Stmt)
     → AllZip (WritesPhi source f) texts phis → AllZip (WritesStmt source f) later stmts → Fit source f from phis
     → (may ≡ false → is_empty phis ≡ true) → first_fault (item_faults source from may (texts ++ later)) ≡ None
 items_free source f from true texts later phis stmts written others fit entry = phis_free source f from texts later phis written fit
@@ -106,7 +113,7 @@ abbrev number_if_jumps : ℕ → Block → List ℕ
 number_if_jumps n block = cond (list_any (λ to. to == n) (targets_of block.end)) (block.number ∷ []) []
 
 -- the numbers of the blocks that jump to a block
-predecessors_named : (source : List ℕ) (f : Function) (n : ℕ) → n < 1000000000 → (trees : List BlockText) (blocks : List Block)
+predecessors_named : (source : List ℕ) (f : Function) (n : ℕ) → n < NUMBER_LIMIT → (trees : List BlockText) (blocks : List Block)
     → ((block : Block) → Has blocks block → AreSmallNumbers (targets_of block.end)) → AllZip (WritesBlock source f) trees blocks
     → map (text_of source) (predecessors source trees (decimal n)) ≡ map decimal (flat_map (number_if_jumps n) blocks)
 predecessors_named source f n small [] [] targets written = refl
@@ -120,7 +127,9 @@ predecessors_named source f n small (tree ∷ trees) (block ∷ blocks) targets 
     rw jumps (by (list_any (λ to. to == n) (targets_of block.end))
     (predecessors_named source f n small trees blocks (λ b there. targets b (inr there)) written.1)) where
       by : (b : Bool) → map (text_of source) (predecessors source trees (decimal n)) ≡ map decimal (flat_map (number_if_jumps n) blocks)
-          → map (text_of source) (map (λ (t : BlockText). t.number) (cond b (tree ∷ filter (jumps_to source (decimal n)) trees) (filter (jumps_to source (decimal n)) trees))) ≡ map decimal (cond b (block.number ∷ []) [] ++ flat_map (number_if_jumps n) blocks)
+          → map (text_of source) (map (λ (t : BlockText). t.number)
+          (cond b (tree ∷ filter (jumps_to source (decimal n)) trees) (filter (jumps_to source (decimal n)) trees)))
+          ≡ map decimal (cond b (block.number ∷ []) [] ++ flat_map (number_if_jumps n) blocks)
       by true rest = rw (written.0.number, rest) refl
       by false rest = rest
 
@@ -134,17 +143,20 @@ module _ (source : List ℕ) (tree : FunctionText) (f : Function) (w : WritesWel
   module _ (text : BlockText) (block : Block) (there : Has f.blocks block) (written : WritesBlock source f text block) where
     block_jumps_free : first_fault (map (jump_fault source (shape.is_among (shape.numbers_of source tree.blocks))) (jumps_of text)) ≡ None
     block_jumps_free =
-        let lead : list_all (λ n. ast.is_among n (numbers_of f)) (targets_of block.end) ≡ true = all_from_has (λ n. ast.is_among n (numbers_of f))
+        let lead : list_all (λ n. ast.is_among n (numbers_of f)) (targets_of block.end) ≡ true =
+        all_from_has (λ n. ast.is_among n (numbers_of f))
         (targets_of block.end) (λ n here.
         all_has (λ m. ast.is_among m (numbers_of f)) (flat_map (λ (b : Block). targets_of b.end) f.blocks) (of_blocks f w.well).targets n
         (has_flat (λ (b : Block). targets_of b.end) f.blocks block n there here)) in
         jumps_free source (shape.is_among (shape.numbers_of source tree.blocks)) (jumps_of text)
         (ap (list_all (shape.is_among (shape.numbers_of source tree.blocks))) (jumps_named source f text.end block.end written.end)
         ∙ ap (λ ts. list_all (shape.is_among ts) (map decimal (targets_of block.end))) numbers_named
-        ∙ all_among_decimals (numbers_of f) (targets_of block.end) (numbers_small f w.within) (targets_small f w.within w.well block there) ∙ lead)
+        ∙ all_among_decimals (numbers_of f) (targets_of block.end) (numbers_small f w.within)
+        (targets_small f w.within w.well block there) ∙ lead)
 
     -- the arguments of a phi fit
-    phi_args_fit : (from : List Span) → map (text_of source) from ≡ map decimal (ast.predecessors f block.number) → Fit source f from block.phis
+    phi_args_fit : (from : List Span) → map (text_of source) from ≡ map decimal (ast.predecessors f block.number)
+        → Fit source f from block.phis
     phi_args_fit from here args phi among written_args =
         let wanted = ast.predecessors f block.number in
         let mine = phi_blocks phi in
@@ -178,7 +190,8 @@ module _ (source : List ℕ) (tree : FunctionText) (f : Function) (w : WritesWel
         ∙ items_free source f from may written.phi_items written.stmt_items block.phis block.stmts written.phis written.stmts
         (phi_args_fit from here) entry in
         rw (end_is_there source f text.head text.end block.end written.end)
-        (none_joined (item_faults source from may text.items) (map (jump_fault source (shape.is_among (shape.numbers_of source tree.blocks)))
+        (none_joined (item_faults source from may text.items)
+        (map (jump_fault source (shape.is_among (shape.numbers_of source tree.blocks)))
         (jumps_of text)) parts_free block_jumps_free)
 
 abbrev EachFree : List ℕ → Function → List BlockText → List Block → Type 0
@@ -204,4 +217,5 @@ unfolding shape_fault
 shape_sound source trees fs written =
     none_of_each (function_faults source) trees (λ tree there.
     let r = beside_first (WritesWell source) trees fs written tree there in
-    body_free source r.0 tree.close tree.blocks r.0.blocks r.2.writes.blocks (of_blocks r.0 r.2.well).entry (block_free source tree r.0 r.2))
+    body_free source r.0 tree.close tree.blocks r.0.blocks r.2.writes.blocks (of_blocks r.0 r.2.well).entry
+    (block_free source tree r.0 r.2))

@@ -28,31 +28,28 @@ use Rattle.gim_text.specs.declared.tree.ItemText.TheVariants as items
 use Rattle.gim_text.specs.declared.tree.OperandText.{OperandText}
 use Rattle.gim_text.specs.declared.tree.RightForm.{RightForm}
 use Rattle.gim_text.specs.declared.tree.RightForm.TheVariants.{Copy, Unary, Cast, Binary, Choice}
-use Rattle.pm_places.specs.FirstFaults.{first_fault}
-use Rattle.gim_making.specs.Declarations.{Declarations, declarations_of, type_of_name}
+use Rattle.gim_typing.specs.Operands.{rhs_of}
+use Rattle.gim_typing.specs.Declarations.{Declarations, declarations_of, type_of_name}
 use Rattle.gim_making.specs.Standing.{StandsFor}
-use Rattle.gim_making.specs.Trees.{rhs_of}
-use Rattle.gim_making.specs.Types.{types_fault, type_of_operand, form_fits, start_of, mismatch, place_of_arg, places_of_item, places_of_end, places_of_block, places_of_function}
-use Rattle.gim_making.proofs.Membership.{Has, has_either, from_map, from_flat, all_has}
-use Rattle.gim_making.proofs.PartLemmas.{type_itself}
+use Rattle.gim_typing.specs.Types.{types_fault, type_of_operand, form_fits, start_of, mismatch, place_of_arg}
+use Rattle.gim_typing.specs.Types.{places_of_item, places_of_end, places_of_block, places_of_function}
+use Rattle.gim_text.proofs.Membership.{Has, has_either, from_map, from_flat, all_has}
+use Rattle.gim_making.proofs.NameParts.{type_itself}
 use Rattle.gim_round_trip.proofs.tree.Rows.{name_facts}
 use Rattle.gim_round_trip.proofs.tree.WellFormedParts.{phi_operand, stmt_operand, end_operand, phi_row, stmt_row, end_fits_here}
 use Rattle.gim_round_trip.proofs.tree.KnownNames.{known_name, operand_is}
 use Rattle.gim_round_trip.proofs.tree.StandingFunctions.{rhs_is, function_is}
 use Rattle.gim_round_trip.proofs.tree.StandingNames.{names_stand}
 use Rattle.gim_round_trip.proofs.tree.PairedLists.{beside_first, paired_by}
-use Rattle.gim_round_trip.proofs.tree.Writes.{WritesWell, WritesOperand, WritesForm, WritesArg, WritesPhi, WritesStmt, WritesEnd, WritesBlock}
+use Rattle.gim_round_trip.proofs.tree.Writes.{WritesWell, WritesOperand, WritesForm, WritesArg}
+use Rattle.gim_round_trip.proofs.tree.Writes.{WritesPhi, WritesStmt, WritesEnd, WritesBlock}
+use Rattle.gim_shape.proofs.PlacesWithoutFault.{none_at_each}
 
 -- ---- places without a fault
 
 -- no place has a fault
 abbrev AreKept : List (Option GimpleFault) → Type 0
 AreKept places = (place : Option GimpleFault) → Has places place → place ≡ None
-
-kept : (places : List (Option GimpleFault)) → AreKept places → first_fault places ≡ None
-kept [] h = refl
-kept (None ∷ places) h = kept places (λ place there. h place (inr there))
-kept (Some fault ∷ places) h = absurd (let e = h (Some fault) (inl refl) in cc)
 
 kept_one : (fits : Bool) (at : Span) → fits ≡ true → AreKept (mismatch fits at ∷ [])
 kept_one fits at h place (inl e) = sym e ∙ ap (λ b. mismatch b at) h
@@ -65,7 +62,8 @@ form_kept source f known t (Unary code a) rhs written is fits = ap (rhs_fits t) 
 form_kept source f known t (Binary code a b) rhs written is fits = ap (rhs_fits t) is ∙ fits
 form_kept source f known t (Choice a b c) rhs written is fits = ap (rhs_fits t) is ∙ fits
 form_kept source f known t (Cast to a) (sides.Op op (x ∷ [])) written is fits =
-    and_from (same_type to t) (rhs_fits t (rhs_of known (Cast to a))) (ap (λ u. same_type u t) written.1 ∙ type_itself t) (ap (rhs_fits t) is ∙ fits)
+    and_from (same_type to t) (rhs_fits t (rhs_of known (Cast to a)))
+    (ap (λ u. same_type u t) written.1 ∙ type_itself t) (ap (rhs_fits t) is ∙ fits)
 form_kept source f known t (Cast to a) rhs written is fits = absurd written
 
 module _ (source : List ℕ) (tree : FunctionText) (f : Function) (w : WritesWell source tree f) where
@@ -96,7 +94,8 @@ module _ (source : List ℕ) (tree : FunctionText) (f : Function) (w : WritesWel
         let row = stmt_row f block there w.well stmt here in
         let t : type_of_name known name ≡ row.0.ty = (known_name source tree f w name stmt.name row.0 written.0 row.1).type in
         let named : printing.type_of_name f stmt.name ≡ row.0.ty = (name_facts f stmt.name row.0 w.well w.within row.1).type in
-        let form : WritesForm source f row.0.ty right.form stmt.rhs = subst (λ u. WritesForm source f u right.form stmt.rhs) named written.1 in
+        let form : WritesForm source f row.0.ty right.form stmt.rhs =
+        subst (λ u. WritesForm source f u right.form stmt.rhs) named written.1 in
         let is = rhs_is source tree f w row.0.ty right.form stmt.rhs form (stmt_operand f block there stmt here) in
         kept_one (form_fits known (type_of_name known name) right.form) right.start
         (ap (λ u. form_fits known u right.form) t ∙ form_kept source f known row.0.ty right.form stmt.rhs form is row.2)
@@ -140,7 +139,7 @@ module _ (source : List ℕ) (tree : FunctionText) (f : Function) (w : WritesWel
 pub types_sound : (source : List ℕ) (trees : List FunctionText) (fs : List Function) → AllZip (WritesWell source) trees fs
     → types_fault source trees ≡ None
 unfolding types_fault
-types_sound source trees fs written = kept (flat_map (places_of_function source) trees) (λ place among.
+types_sound source trees fs written = none_at_each (flat_map (places_of_function source) trees) (λ place among.
     let tree = from_flat (places_of_function source) trees place among in
     let f = beside_first (WritesWell source) trees fs written tree.0 tree.1 in
     function_kept source tree.0 f.0 f.2 place tree.2)

@@ -12,6 +12,7 @@ use Rattle.gim_ast.specs.Functions.{assigned}
 use Rattle.gim_ast.specs.Identifiers.{is_anonymous, anonymous}
 use Rattle.gim_printer.specs.Printing.{assigned_text}
 use Rattle.gim_ast.specs.WellFormed.{same_text, ident_of, declares_as, base_holds, is_assigned}
+use Rattle.gim_text.proofs.SameTexts.{same_text_itself}
 use Rattle.gim_text.specs.declared.occurrence.Occurrence.{Occurrence}
 use Rattle.gim_text.specs.declared.occurrence.Occurrence.TheVariants.{Parameter, Assigned, Used, Default, Constant}
 use Rattle.gim_text.specs.declared.tree.FunctionText.{FunctionText}
@@ -19,11 +20,10 @@ use Rattle.pm_places.specs.declared.span.Span.{Span}
 use Rattle.gim_text.specs.Occurrences.{occurrences_of}
 use Rattle.gim_text.specs.Texts.{name_parts}
 use Rattle.pm_places.specs.Spans.{text_of}
-use Rattle.gim_names.specs.Parts.{param_text, local_text}
+use Rattle.gim_names.specs.OccurrenceTexts.{param_text, local_text}
 use Rattle.gim_names.specs.Rules.{lacks_base, lacks_param, is_unassigned, is_undeclared, is_wide}
-use Rattle.gim_names.proofs.Keeping.{bare_is_anonymous}
-use Rattle.gim_making.proofs.Membership.{has_map, any_has, any_from_has, none_has}
-use Rattle.gim_making.proofs.PartLemmas.{text_itself}
+use Rattle.gim_names.proofs.NamesKept.{bare_is_anonymous}
+use Rattle.gim_text.proofs.Membership.{has_map, any_has, any_from_has, none_has}
 use Rattle.gim_round_trip.proofs.rules.KeptRules.{NeverBy, never_each}
 use Rattle.gim_round_trip.proofs.tree.OccurringTexts.{params_said, locals_said, assigned_said}
 use Rattle.gim_round_trip.proofs.tree.Rows.{HasBase, bare, of_param, of_local, base_of_row, declared_as}
@@ -36,7 +36,7 @@ declared_among : (ident : List ℕ) (t : Ty) (decls : List Decl) → declares_as
 declared_among ident t decls declared =
     let decl = declared_as ident t decls declared in
     any_from_has (same_text ident) (map ident_of decls) decl.0.ident (has_map ident_of decls decl.0 decl.1)
-    (ap (same_text ident) decl.2 ∙ text_itself ident)
+    (ap (same_text ident) decl.2 ∙ same_text_itself ident)
 
 -- a name of this version lacks this base
 abbrev lacks_at : List ℕ → FunctionText → List ℕ → List ℕ → Bool
@@ -58,7 +58,9 @@ module _ (source : List ℕ) (tree : FunctionText) (f : Function) (w : WritesWel
       ∙ ap (λ text. lacks_base source (occurrences_of tree) text (Some (row.base, decimal row.version))) name.text
       ∙ by (base_of_row f row name.base) where
         by : HasBase f row → lacks_at source tree (decimal row.version) row.base ≡ false
-        by (bare is plain declared) = ap (lacks_at source tree (decimal row.version)) is ∙ ap not (is_local (anonymous row.version) row.ty declared)
+        by (bare is plain declared) =
+            ap (lacks_at source tree (decimal row.version)) is
+            ∙ ap not (is_local (anonymous row.version) row.ty declared)
         by (of_param b base is declared) = ap (lacks_at source tree (decimal row.version)) is
             ∙ ap not (or_right (list_any (same_text (b ∷ base)) (filter_map (local_text source) (occurrences_of tree))) _
             (is_param (b ∷ base) row.ty declared))
@@ -82,8 +84,9 @@ module _ (source : List ℕ) (tree : FunctionText) (f : Function) (w : WritesWel
       let x = any_has (λ y. y == row.version) (assigned f) stands in
       let same : text ≡ assigned_text f x.0 = name.named ∙ ap (assigned_text f) (sym (eqb-true x.0 row.version x.2)) in
       ap not (ap (list_any (same_text text)) (assigned_said source tree f w)
-      ∙ any_from_has (same_text text) (map (assigned_text f) (assigned f)) (assigned_text f x.0) (has_map (assigned_text f) (assigned f) x.0 x.1)
-      (ap (same_text text) (sym same) ∙ text_itself text))
+      ∙ any_from_has (same_text text) (map (assigned_text f) (assigned f)) (assigned_text f x.0)
+      (has_map (assigned_text f) (assigned f) x.0 x.1)
+      (ap (same_text text) (sym same) ∙ same_text_itself text))
 
   -- ---- occurrences
 
@@ -92,7 +95,8 @@ module _ (source : List ℕ) (tree : FunctionText) (f : Function) (w : WritesWel
 
   is_declared : (o : Occurrence) → OccurrenceIs source f o → is_undeclared source (occurrences_of tree) o ≡ false
   is_declared (Parameter at) is = bare_is_anonymous (text_of source at)
-      ∙ false_from_ne_true (is_anonymous (text_of source at)) (none_has is_anonymous (map ident_of f.params) no_param_is_bare (text_of source at) is)
+      ∙ false_from_ne_true (is_anonymous (text_of source at))
+      (none_has is_anonymous (map ident_of f.params) no_param_is_bare (text_of source at) is)
   is_declared (Assigned at) is = name_has_base at is.0 is.1
   is_declared (Used at) is = or_from (lacks_base source (occurrences_of tree) (text_of source at) (name_parts (text_of source at))) _
       (name_has_base at is.0 is.1) (name_is_assigned at is.0 is.1 is.3)

@@ -1,5 +1,6 @@
 -- The printed texts of constants are read as these.
-use Rattle.std.proofs.Common.{◌≡◌, ℕ, suc, ◌<◌, ◌≤◌, ◌^◌, Bool, true, false, cond, Some, None, List, [], ◌∷◌, ◌++◌, length, codes, lit≤, refl, sym, ap, ◌∙◌, subst, arith}
+use Rattle.std.proofs.Common.{◌≡◌, ℕ, suc, ◌<◌, ◌≤◌, ◌^◌, Bool, true, false, cond, Some, None, List, []}
+use Rattle.std.proofs.Common.{◌∷◌, ◌++◌, length, codes, lit≤, refl, sym, ap, ◌∙◌, subst, arith}
 use Rattle.std.specs.Prelude.{ℤ, pos, negsuc, neg_ℤ, nat_lt}
 use Rattle.std.specs.Fmt.{decimal, signed_decimal}
 use Rattle.std.specs.Int.RustNames.{unsigned_abs}
@@ -65,10 +66,13 @@ record IsSuffix (suffix : List ℕ) (kind : NumberKind) : Type 0 where
 number_text_of : (n : ℕ) (suffix : List ℕ) (kind : NumberKind) → n < 10 ^ 64 → IsSuffix suffix kind → NumberText (decimal n) suffix kind
 number_text_of n suffix kind small h = record { number = (decimal_writes n small).text; letters = h.letters; kind_is = h.kind_is }
 
-number_read : (n : ℕ) (suffix bs : List ℕ) (kind : NumberKind) → n < 10 ^ 64 → IsSuffix suffix kind → bs ≡ decimal n ++ suffix → number_after 0 (leading_digits bs) ≡ n
+number_read : (n : ℕ) (suffix bs : List ℕ) (kind : NumberKind) → n < 10 ^ 64 → IsSuffix suffix kind
+    → bs ≡ decimal n ++ suffix → number_after 0 (leading_digits bs) ≡ n
 number_read n suffix bs kind small h e =
     let w = decimal_writes n small in
-    ap (λ text. number_after 0 (leading_digits text)) e ∙ ap (number_after 0) (front_digits (decimal n) suffix (number_text_is_digits (decimal n) w.text) h.letters) ∙ w.number
+    ap (λ text. number_after 0 (leading_digits text)) e
+    ∙ ap (number_after 0) (front_digits (decimal n) suffix (number_text_is_digits (decimal n) w.text) h.letters)
+    ∙ w.number
 
 -- the tokens begin where the first one stands
 begins_there : (t : Token) (M : List Token → Type 0) (w : List Token) → ((λ u. u ≡ t ∷ []) ▸ M) w → BeginsAt (span_of t) w
@@ -77,23 +81,30 @@ begins_there t M w (u, v, first, rest, cut) = subst (BeginsAt (span_of t)) (sym 
 after_minus : (at : Span) (M : List Token → Type 0) (w : List Token) → ((λ u. u ≡ tokens.Mark marks.Minus at ∷ []) ▸ M) w → Signed true M w
 after_minus at M w (u, v, first, rest, cut) = (u, v, (at, (tokens.Mark marks.Minus at, refl, first)), rest, cut)
 
-after_literal : (at : Span) (M : List Token → Type 0) (w : List Token) → ((λ u. u ≡ tokens.Keyword keywords.Literal at ∷ []) ▸ M) w → (AKeyword keywords.Literal ▸ M) w
+after_literal : (at : Span) (M : List Token → Type 0) (w : List Token)
+    → ((λ u. u ≡ tokens.Keyword keywords.Literal at ∷ []) ▸ M) w → (AKeyword keywords.Literal ▸ M) w
 after_literal at M w (u, v, first, rest, cut) = (u, v, (at, (tokens.Keyword keywords.Literal at, refl, first)), rest, cut)
 
 -- A whole number and a suffix, where M is spelled by a number of that kind.
-signed_prints : (source : List ℕ) (z : ℤ) (suffix : List ℕ) (kind : NumberKind) (M : Span → List Token → Type 0) → unsigned_abs z < 10 ^ 64 → IsSuffix suffix kind
+signed_prints : (source : List ℕ) (z : ℤ) (suffix : List ℕ) (kind : NumberKind) (M : Span → List Token → Type 0)
+    → unsigned_abs z < 10 ^ 64 → IsSuffix suffix kind
     → ((span : Span) → M span (tokens.Number kind span ∷ []))
-    → Prints source word_end (λ (x : SignedNumber) (w : List Token). BeginsAt x.start w × Signed x.negative (M x.number) w) (λ x. size_there source x ≡ z) (signed_decimal z ++ suffix)
+    → Prints source word_end (λ (x : SignedNumber) (w : List Token). BeginsAt x.start w
+    × Signed x.negative (M x.number) w) (λ x. size_there source x ≡ z) (signed_decimal z ++ suffix)
 signed_prints source (pos n) suffix kind M small h means =
     let size = length (decimal n ++ suffix) in
-    written_number_prints source (decimal n) suffix kind (λ at. record { start = place at size; negative = false; number = place at size }) (number_text_of n suffix kind small h)
+    written_number_prints source (decimal n) suffix kind
+    (λ at. record { start = place at size; negative = false; number = place at size })
+    (number_text_of n suffix kind small h)
     (λ at. (refl, means (place at size))) (λ at e. ap pos (number_read n suffix (text_of source (place at size)) kind small h e))
 signed_prints source (negsuc n) suffix kind M small h means =
     let size = length (decimal (suc n) ++ suffix) in
-    let number : Prints source word_end M (λ (at : Span). number_after 0 (leading_digits (text_of source at)) ≡ suc n) (decimal (suc n) ++ suffix) =
+    let number : Prints source word_end M (λ (at : Span). number_after 0 (leading_digits (text_of source at)) ≡ suc n)
+    (decimal (suc n) ++ suffix) =
     written_number_prints source (decimal (suc n)) suffix kind (λ at. place at size) (number_text_of (suc n) suffix kind small h)
     (λ at. means (place at size)) (λ at e. number_read (suc n) suffix (text_of source (place at size)) kind small h e) in
-    seen (joined (mark_there source marks.Minus refl) (λ rest. tt) number) (λ (x : Span × Span). record { start = x.0; negative = true; number = x.1 })
+    seen (joined (mark_there source marks.Minus refl) (λ rest. tt) number)
+    (λ (x : Span × Span). record { start = x.0; negative = true; number = x.1 })
     (λ x w is spelled. (begins_there (tokens.Mark marks.Minus x.0) (M x.1) w spelled, after_minus x.0 (M x.1) w spelled))
     (λ x is. ap (λ m. neg_ℤ (pos m)) is.1)
 
@@ -123,22 +134,28 @@ word_is_held w h =
 
 word_found : (w : Word) (ty : LiteralType) → IsHeld w → literal_type ty (value w) ≡ w.ty → word_by ty (value w) ≡ Some w
 word_found w ty h is =
-    ap (λ t. cond (in_range t (value w)) (Some (word t (value w))) None) is ∙ ap (λ b. cond b (Some (word w.ty (value w))) None) h.range ∙ ap Some h.same
+    ap (λ t. cond (in_range t (value w)) (Some (word t (value w))) None) is
+    ∙ ap (λ b. cond b (Some (word w.ty (value w))) None) h.range ∙ ap Some h.same
 
 literal_is : (source : List ℕ) (w : Word) (literal : LiteralText) → IsHeld w → literal_type literal.ty (value w) ≡ w.ty
-    → signed literal.negative (number_after 0 (leading_digits (text_of source literal.number))) ≡ value w → literal_word source literal ≡ Some w
+    → signed literal.negative (number_after 0 (leading_digits (text_of source literal.number))) ≡ value w
+    → literal_word source literal ≡ Some w
 unfolding literal_word
 literal_is source w literal h is size = ap (word_by literal.ty) size ∙ word_found w literal.ty h is
 
 -- ---- constants of the four types that show by a suffix
 
-short_prints : (source : List ℕ) (f : Function) (w : Word) (suffix : List ℕ) (kind : NumberKind) (ty : LiteralType) → IsHeld w → IsSuffix suffix kind
+short_prints : (source : List ℕ) (f : Function) (w : Word) (suffix : List ℕ) (kind : NumberKind) (ty : LiteralType)
+    → IsHeld w → IsSuffix suffix kind
     → ((span : Span) → literal_number (tokens.Number kind span) ≡ Some (ty, span))
-    → ((negative : Bool) (number : Span) (v : List Token) → Signed negative (Meant literal_number (ty, number)) v → SpellsConstant ty negative number v)
+    → ((negative : Bool) (number : Span) (v : List Token) → Signed negative (Meant literal_number (ty, number)) v
+    → SpellsConstant ty negative number v)
     → literal_type ty (value w) ≡ w.ty
-    → Prints source word_end SpellsOperand (λ (tree : OperandText). WritesOperand source f tree (operands.Const w)) (signed_decimal (value w) ++ suffix)
+    → Prints source word_end SpellsOperand (λ (tree : OperandText). WritesOperand source f tree (operands.Const w))
+    (signed_decimal (value w) ++ suffix)
 short_prints source f w suffix kind ty h is_suffix means spells is =
-    seen (signed_prints source (value w) suffix kind (λ number. Meant literal_number (ty, number)) h.small is_suffix (λ span. (tokens.Number kind span, means span, refl)))
+    seen (signed_prints source (value w) suffix kind (λ number. Meant literal_number (ty, number)) h.small is_suffix
+    (λ span. (tokens.Number kind span, means span, refl)))
     (λ (x : SignedNumber). trees.Literal (record { start = x.start; ty = ty; negative = x.negative; number = x.number }))
     (λ x v size spelled. (spelled.0, spells x.negative x.number v spelled.1))
     (λ x size. literal_is source w (record { start = x.start; ty = ty; negative = x.negative; number = x.number }) h is size)
@@ -146,31 +163,44 @@ short_prints source f w suffix kind ty h is_suffix means spells is =
 -- ---- constants with their type written out
 
 literal_text_is : (w : Word) → literal_text w ≡ codes "_Literal (" ++ (type_text w.ty ++ (codes ") " ++ signed_decimal (value w)))
-literal_text_is w = append_assoc (codes "_Literal (" ++ type_text w.ty) (codes ") ") (signed_decimal (value w)) ∙ append_assoc (codes "_Literal (") (type_text w.ty) (codes ") " ++ signed_decimal (value w))
+literal_text_is w =
+    append_assoc (codes "_Literal (" ++ type_text w.ty) (codes ") ") (signed_decimal (value w))
+    ∙ append_assoc (codes "_Literal (") (type_text w.ty) (codes ") " ++ signed_decimal (value w))
 
 plain_suffix : IsSuffix [] kinds.Plain
 plain_suffix = record { letters = refl; kind_is = refl }
 
 plain_prints : (source : List ℕ) (w : Word) → IsHeld w
-    → Prints source word_end (λ (x : SignedNumber). Signed x.negative (Meant plain_number x.number)) (λ x. size_there source x ≡ value w) (signed_decimal (value w))
+    → Prints source word_end (λ (x : SignedNumber). Signed x.negative (Meant plain_number x.number))
+    (λ x. size_there source x ≡ value w) (signed_decimal (value w))
 plain_prints source w h =
-    seen (subst (Prints source word_end (λ (x : SignedNumber) (v : List Token). BeginsAt x.start v × Signed x.negative (Meant plain_number x.number) v) (λ x. size_there source x ≡ value w)) (append-nil (signed_decimal (value w)))
-    (signed_prints source (value w) [] kinds.Plain (λ number. Meant plain_number number) h.small plain_suffix (λ span. (tokens.Number kinds.Plain span, refl, refl))))
+    seen (subst (Prints source word_end (λ (x : SignedNumber) (v : List Token). BeginsAt x.start v
+    × Signed x.negative (Meant plain_number x.number) v) (λ x. size_there source x ≡ value w))
+    (append-nil (signed_decimal (value w)))
+    (signed_prints source (value w) [] kinds.Plain (λ number. Meant plain_number number) h.small plain_suffix
+    (λ span. (tokens.Number kinds.Plain span, refl, refl))))
     (λ x. x) (λ x v size spelled. spelled.1) (λ x size. size)
 
 -- under a unary minus too
 pub literal_prints : (source : List ℕ) (f : Function) (w : Word) → is_word w ≡ true
-    → Prints source word_end (λ (tree : OperandText) (v : List Token). MayStandUnder operations.Negate tree × SpellsOperand tree v) (λ tree. WritesOperand source f tree (operands.Const w)) (literal_text w)
+    → Prints source word_end (λ (tree : OperandText) (v : List Token). MayStandUnder operations.Negate tree
+    × SpellsOperand tree v) (λ tree. WritesOperand source f tree (operands.Const w)) (literal_text w)
 literal_prints source f w holds =
     let h = word_is_held w holds in
     let closed = joined (a_mark_prints source marks.Close refl) (λ rest. tt) (blanks_before (codes " ") refl (plain_prints source w h)) in
     let typed = joined (type_text_prints source w.ty h.type) (λ rest. refl) closed in
     let opened = joined (blanks_before (codes " ") refl (a_mark_prints source marks.Open refl)) (λ rest. tt) typed in
-    subst (Prints source word_end (λ (tree : OperandText) (v : List Token). MayStandUnder operations.Negate tree × SpellsOperand tree v) (λ tree. WritesOperand source f tree (operands.Const w))) (sym (literal_text_is w))
+    subst (Prints source word_end (λ (tree : OperandText) (v : List Token). MayStandUnder operations.Negate tree
+    × SpellsOperand tree v) (λ tree. WritesOperand source f tree (operands.Const w))) (sym (literal_text_is w))
     (seen (joined (keyword_there source keywords.Literal) (λ rest. refl) opened)
     (λ x. trees.Literal (record { start = x.0; ty = types.Written w.ty; negative = x.1.1.1.1.negative; number = x.1.1.1.1.number }))
     (λ x v is spelled. (tt, (begins_there (tokens.Keyword keywords.Literal x.0) _ v spelled, after_literal x.0 _ v spelled)))
-    (λ x is. literal_is source w (record { start = x.0; ty = types.Written w.ty; negative = x.1.1.1.1.negative; number = x.1.1.1.1.number }) h refl is.1.1.1.1))
+    (λ x is. literal_is source w (record {
+      start = x.0;
+      ty = types.Written w.ty;
+      negative = x.1.1.1.1.negative;
+      number = x.1.1.1.1.number;
+    }) h refl is.1.1.1.1))
 
 -- ---- constants
 
@@ -179,22 +209,31 @@ pub constant_prints : (source : List ℕ) (f : Function) (w : Word) → is_word 
 unfolding constant_text suffix_of
 constant_prints source f w holds =
     by (same_type w.ty int_type) (same_type w.ty unsigned_int_type) (same_type w.ty long_type) (same_type w.ty unsigned_long_type)
-    (same_type_is w.ty int_type) (same_type_is w.ty unsigned_int_type) (same_type_is w.ty long_type) (same_type_is w.ty unsigned_long_type) where
+    (same_type_is w.ty int_type) (same_type_is w.ty unsigned_int_type) (same_type_is w.ty long_type)
+    (same_type_is w.ty unsigned_long_type) where
       held : IsHeld w
       held = word_is_held w holds
 
-      by : (a b c d : Bool) → (a ≡ true → w.ty ≡ int_type) → (b ≡ true → w.ty ≡ unsigned_int_type) → (c ≡ true → w.ty ≡ long_type) → (d ≡ true → w.ty ≡ unsigned_long_type)
+      by : (a b c d : Bool) → (a ≡ true → w.ty ≡ int_type) → (b ≡ true → w.ty ≡ unsigned_int_type)
+          → (c ≡ true → w.ty ≡ long_type) → (d ≡ true → w.ty ≡ unsigned_long_type)
           → Prints source word_end SpellsOperand (λ (tree : OperandText). WritesOperand source f tree (operands.Const w))
-          (option_map_or (λ suffix. signed_decimal (value w) ++ suffix) (cond a (Some []) (cond b (Some (codes "u")) (cond c (Some (codes "l")) (cond d (Some (codes "ul")) None)))) (literal_text w))
+          (option_map_or (λ suffix. signed_decimal (value w) ++ suffix)
+          (cond a (Some []) (cond b (Some (codes "u")) (cond c (Some (codes "l")) (cond d (Some (codes "ul")) None))))
+          (literal_text w))
       by true b c d p q r s =
           let fits : in_range int_type (value w) ≡ true = subst (λ t. in_range t (value w) ≡ true) (p refl) held.range in
-          short_prints source f w [] kinds.Plain types.Plain held plain_suffix (λ span. refl) (λ negative number v h. h) (ap (λ t. cond t int_type long_type) fits ∙ sym (p refl))
+          short_prints source f w [] kinds.Plain types.Plain held plain_suffix (λ span. refl) (λ negative number v h. h)
+          (ap (λ t. cond t int_type long_type) fits ∙ sym (p refl))
       by false true c d p q r s =
           let fits : in_range unsigned_int_type (value w) ≡ true = subst (λ t. in_range t (value w) ≡ true) (q refl) held.range in
-          short_prints source f w (codes "u") kinds.Unsigned types.Unsigned held (record { letters = refl; kind_is = refl }) (λ span. refl) (λ negative number v h. h)
+          short_prints source f w (codes "u") kinds.Unsigned types.Unsigned held
+          (record { letters = refl; kind_is = refl }) (λ span. refl) (λ negative number v h. h)
           (ap (λ t. cond t unsigned_int_type unsigned_long_type) fits ∙ sym (q refl))
       by false false true d p q r s =
-          short_prints source f w (codes "l") kinds.Long types.Long held (record { letters = refl; kind_is = refl }) (λ span. refl) (λ negative number v h. h) (sym (r refl))
+          short_prints source f w (codes "l") kinds.Long types.Long held (record { letters = refl; kind_is = refl })
+          (λ span. refl) (λ negative number v h. h) (sym (r refl))
       by false false false true p q r s =
-          short_prints source f w (codes "ul") kinds.UnsignedLong types.UnsignedLong held (record { letters = refl; kind_is = refl }) (λ span. refl) (λ negative number v h. h) (sym (s refl))
-      by false false false false p q r s = seen (literal_prints source f w holds) (λ tree. tree) (λ tree v is spelled. spelled.1) (λ tree is. is)
+          short_prints source f w (codes "ul") kinds.UnsignedLong types.UnsignedLong held
+          (record { letters = refl; kind_is = refl }) (λ span. refl) (λ negative number v h. h) (sym (s refl))
+      by false false false false p q r s =
+          seen (literal_prints source f w holds) (λ tree. tree) (λ tree v is spelled. spelled.1) (λ tree is. is)

@@ -19,7 +19,9 @@ use Rattle.gim_round_trip.proofs.text.Words.{begins_none}
 
 -- it begins no word, number or quoted text and no separator
 abbrev BeginsMark : ℕ → Type 0
-BeginsMark a = is_letter a ∷ is_digit a ∷ (a == 34) ∷ is_space a ∷ (47 == a) ∷ (59 == a) ∷ [] ≡ false ∷ false ∷ false ∷ false ∷ false ∷ false ∷ []
+BeginsMark a =
+    is_letter a ∷ is_digit a ∷ (a == 34) ∷ is_space a ∷ (47 == a) ∷ (59 == a) ∷ [] ≡ false ∷ false ∷ false ∷ false
+    ∷ false ∷ false ∷ []
 
 mark_apart : (a : ℕ) → BeginsMark a → (l : Bool) (text : List ℕ) → separator_length l (a ∷ text) ≡ None
 mark_apart a h l text = begins_none l a text (cc) (cc) (cc)
@@ -33,7 +35,8 @@ mark_begins at a text h =
     let slash : (47 == a) ≡ false = cc in
     rw (letter, digit, quote, slash) refl
 
-short_there : (at a b : ℕ) (text : List ℕ) (m : Mark) → short_mark a ≡ Some m → long_mark a b ≡ None → mark_at at (a ∷ b ∷ text) ≡ Some (tokens.Mark m (place at 1))
+short_there : (at a b : ℕ) (text : List ℕ) (m : Mark) → short_mark a ≡ Some m → long_mark a b ≡ None
+    → mark_at at (a ∷ b ∷ text) ≡ Some (tokens.Mark m (place at 1))
 unfolding mark_at
 short_there at a b text m short long = rw (long, short) refl
 
@@ -41,7 +44,8 @@ short_last : (at a : ℕ) (m : Mark) → short_mark a ≡ Some m → mark_at at 
 unfolding mark_at
 short_last at a m short = rw short refl
 
-long_there : (at a b : ℕ) (text : List ℕ) (m : Mark) → long_mark a b ≡ Some m → mark_at at (a ∷ b ∷ text) ≡ Some (tokens.Mark m (place at 2))
+long_there : (at a b : ℕ) (text : List ℕ) (m : Mark) → long_mark a b ≡ Some m
+    → mark_at at (a ∷ b ∷ text) ≡ Some (tokens.Mark m (place at 2))
 unfolding mark_at
 long_there at a b text m long = rw long refl
 
@@ -64,18 +68,21 @@ two_bytes a b m begins long = record {
   stands = λ at rest. mark_begins at a (b ∷ rest) begins ∙ long_there at a b rest m long;
 }
 
-pub mark_text_prints : {A : Type 0} {N : A → List Token → Type 0} {Is : A → Type 0} (source bs : List ℕ) (m : Mark) (value : ℕ → A) → IsMarkText bs m
+pub mark_text_prints : {A : Type 0} {N : A → List Token → Type 0} {Is : A → Type 0} (source bs : List ℕ) (m : Mark)
+    (value : ℕ → A) → IsMarkText bs m
     → ((at : ℕ) → N (value at) (tokens.Mark m (place at (length bs)) ∷ []))
     → ((at : ℕ) → text_of source (place at (length bs)) ≡ bs → Is (value at))
     → Prints source any_end N Is bs
 mark_text_prints source bs m value h spells holds =
-    token_prints source any_end bs (λ at. tokens.Mark m (place at (length bs))) value (λ l rest ends. h.apart l rest) (λ at rest ends. h.stands at rest) (λ at. refl) spells holds
+    token_prints source any_end bs (λ at. tokens.Mark m (place at (length bs))) value (λ l rest ends. h.apart l rest)
+    (λ at rest ends. h.stands at rest) (λ at. refl) spells holds
 
 -- ---- marks before white space
 
 pub record IsSpacedMark (bs : List ℕ) (m : Mark) : Type 0 where
   pub apart : (l : Bool) (b : ℕ) (rest : List ℕ) → is_space b ≡ true → separator_length l (bs ++ b ∷ rest) ≡ None
-  pub stands : (at b : ℕ) (rest : List ℕ) → is_space b ≡ true → token_of_text at (bs ++ b ∷ rest) ≡ Some (tokens.Mark m (place at (length bs)))
+  pub stands : (at b : ℕ) (rest : List ℕ) → is_space b ≡ true
+      → token_of_text at (bs ++ b ∷ rest) ≡ Some (tokens.Mark m (place at (length bs)))
 
 pub spaced : (bs : List ℕ) (m : Mark) → IsMarkText bs m → IsSpacedMark bs m
 spaced bs m h = record { apart = λ l b rest space. h.apart l (b ∷ rest); stands = λ at b rest space. h.stands at (b ∷ rest) }
@@ -84,7 +91,8 @@ other_than_space : (a b : ℕ) → is_space a ≡ false → is_space b ≡ true 
 other_than_space a b other space = ne_eqb a b (λ e. false≢true (sym other ∙ ap is_space e ∙ space))
 
 -- one byte that with white space is no mark of two
-before_space : (a : ℕ) (m : Mark) → BeginsMark a → short_mark a ≡ Some m → ((b : ℕ) → is_space b ≡ true → long_mark a b ≡ None) → IsSpacedMark (a ∷ []) m
+before_space : (a : ℕ) (m : Mark) → BeginsMark a → short_mark a ≡ Some m
+    → ((b : ℕ) → is_space b ≡ true → long_mark a b ≡ None) → IsSpacedMark (a ∷ []) m
 before_space a m begins short long = record {
   apart = λ l b rest space. mark_apart a begins l (b ∷ rest);
   stands = λ at b rest space. mark_begins at a (b ∷ rest) begins ∙ short_there at a b rest m short (long b space);
@@ -97,7 +105,9 @@ pub less_mark : IsSpacedMark (codes "<") marks.Less
 less_mark = before_space 60 marks.Less refl refl (λ b space. rw (other_than_space 60 b refl space, other_than_space 61 b refl space) refl)
 
 pub greater_mark : IsSpacedMark (codes ">") marks.Greater
-greater_mark = before_space 62 marks.Greater refl refl (λ b space. rw (other_than_space 62 b refl space, other_than_space 61 b refl space) refl)
+greater_mark =
+    before_space 62 marks.Greater refl refl
+    (λ b space. rw (other_than_space 62 b refl space, other_than_space 61 b refl space) refl)
 
 semicolon_apart : (l : Bool) (b : ℕ) (rest : List ℕ) → is_space b ≡ true → separator_length l (59 ∷ b ∷ rest) ≡ None
 unfolding separator_length
@@ -116,14 +126,16 @@ unfolding separator_length
 slash_apart true b rest space = rw (other_than_space 47 b refl space, other_than_space 42 b refl space) refl
 slash_apart false b rest space = rw (other_than_space 47 b refl space, other_than_space 42 b refl space) refl
 
-slash_stands : (at b : ℕ) (rest : List ℕ) → is_space b ≡ true → token_of_text at (47 ∷ b ∷ rest) ≡ Some (tokens.Mark marks.Slash (place at 1))
+slash_stands : (at b : ℕ) (rest : List ℕ) → is_space b ≡ true
+    → token_of_text at (47 ∷ b ∷ rest) ≡ Some (tokens.Mark marks.Slash (place at 1))
 unfolding token_of_text mark_at
 slash_stands at b rest space = rw (other_than_space 42 b refl space) refl
 
 pub slash_mark : IsSpacedMark (codes "/") marks.Slash
 slash_mark = record { apart = slash_apart; stands = slash_stands }
 
-pub spaced_mark_prints : {A : Type 0} {N : A → List Token → Type 0} {Is : A → Type 0} (source bs : List ℕ) (m : Mark) (value : ℕ → A) → IsSpacedMark bs m
+pub spaced_mark_prints : {A : Type 0} {N : A → List Token → Type 0} {Is : A → Type 0} (source bs : List ℕ) (m : Mark)
+    (value : ℕ → A) → IsSpacedMark bs m
     → ((at : ℕ) → N (value at) (tokens.Mark m (place at (length bs)) ∷ []))
     → ((at : ℕ) → text_of source (place at (length bs)) ≡ bs → Is (value at))
     → Prints source blank_end N Is bs

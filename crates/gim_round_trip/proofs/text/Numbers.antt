@@ -1,5 +1,6 @@
 -- Texts of one number: digits and a suffix.
-use Rattle.std.proofs.Common.{◌≡◌, ℕ, ◌+◌, ◌*◌, ◌-◌, ◌/◌, ◌%◌, ◌^◌, ◌<◌, ◌≤◌, Bool, true, false, Some, None, List, [], ◌∷◌, ◌++◌, length, take, drop, refl, sym, ap, ◌∙◌, arith}
+use Rattle.std.proofs.Common.{◌≡◌, ℕ, ◌+◌, ◌*◌, ◌-◌, ◌/◌, ◌%◌, ◌^◌, ◌<◌, ◌≤◌, Bool, true, false, Some}
+use Rattle.std.proofs.Common.{None, List, [], ◌∷◌, ◌++◌, length, take, drop, refl, sym, ap, ◌∙◌, arith}
 use Rattle.std.specs.Prelude.{◌==◌, ◌&&◌, not}
 use Rattle.std.specs.List.{prefix_len, list_all}
 use Rattle.std.specs.Fmt.{decimal}
@@ -29,15 +30,19 @@ use Rattle.gim_round_trip.proofs.text.Words.{run_over, begins_none}
 -- ---- digits
 
 -- one digit more behind a number that isn't 0
-still_number_text : (bs : List ℕ) (d : ℕ) → is_number_text bs ≡ true → 0 < number_after 0 bs → is_digit d ≡ true → is_number_text (bs ++ d ∷ []) ≡ true
+still_number_text : (bs : List ℕ) (d : ℕ) → is_number_text bs ≡ true → 0 < number_after 0 bs → is_digit d ≡ true
+    → is_number_text (bs ++ d ∷ []) ≡ true
 still_number_text [] d h some digit = absurd (false≢true h)
 still_number_text (b ∷ []) d h some digit =
     let other : (b == 48) ≡ false = ne_eqb b 48 (λ e. absurd (omega arith)) in
-    and_from (is_digit b && not (b == 48)) (is_digit d && true) (and_from (is_digit b) (not (b == 48)) h (not_from_false (b == 48) other)) (and_from (is_digit d) true digit refl)
+    and_from (is_digit b && not (b == 48)) (is_digit d && true)
+    (and_from (is_digit b) (not (b == 48)) h (not_from_false (b == 48) other))
+    (and_from (is_digit d) true digit refl)
 still_number_text (b ∷ c ∷ bs) d h some digit =
     let p = and_parts (is_digit b && not (b == 48)) (list_all is_digit (c ∷ bs)) h in
     and_from (is_digit b && not (b == 48)) (list_all is_digit (c ∷ (bs ++ d ∷ []))) p.0
-    (list_all-append is_digit (c ∷ bs) (d ∷ []) ∙ and_from (list_all is_digit (c ∷ bs)) (is_digit d && true) p.1 (and_from (is_digit d) true digit refl))
+    (list_all-append is_digit (c ∷ bs) (d ∷ [])
+    ∙ and_from (list_all is_digit (c ∷ bs)) (is_digit d && true) p.1 (and_from (is_digit d) true digit refl))
 
 -- the number of one digit more
 number_with_digit : (m : ℕ) (bs : List ℕ) (d : ℕ) → number_after m (bs ++ d ∷ []) ≡ 10 * number_after m bs + (d - 48)
@@ -70,8 +75,10 @@ decimal_writes n small = decimal_by_steps_wide WritesNumber one_digit digit_more
 
 -- ---- where the digits and the suffix end
 
-digits_end : (suffix rest : List ℕ) → list_all is_suffix_letter suffix ≡ true → Ends word_end rest → prefix_len is_digit (suffix ++ rest) ≡ 0
-digits_end (b ∷ suffix) rest all ends = rw (letter_is_no_digit b (and_parts (is_suffix_letter b) (list_all is_suffix_letter suffix) all).0) refl
+digits_end : (suffix rest : List ℕ) → list_all is_suffix_letter suffix ≡ true → Ends word_end rest
+    → prefix_len is_digit (suffix ++ rest) ≡ 0
+digits_end (b ∷ suffix) rest all ends =
+    rw (letter_is_no_digit b (and_parts (is_suffix_letter b) (list_all is_suffix_letter suffix) all).0) refl
 digits_end [] [] all ends = refl
 digits_end [] (b ∷ rest) all ends = rw (other_is_no_digit b ends) refl where
   other_is_no_digit : (b : ℕ) → is_word_byte b ≡ false → is_digit b ≡ false
@@ -90,13 +97,16 @@ digit_begins_none l b text h = begins_none l b text (grind (arith, nat_tests)) (
 
 -- the digits, and behind them the suffix
 number_there : (at n m : ℕ) (text digits suffix rest : List ℕ) → prefix_len is_digit text ≡ n → take n text ≡ digits → drop n text ≡ rest
-    → prefix_len is_suffix_letter rest ≡ m → take m rest ≡ suffix → number_at at text ≡ tokens.Number (number_kind digits suffix) (place at (n + m))
+    → prefix_len is_suffix_letter rest ≡ m → take m rest ≡ suffix
+    → number_at at text ≡ tokens.Number (number_kind digits suffix) (place at (n + m))
 unfolding number_at
 number_there at n m text digits suffix rest run front left letters last = rw (run, left, letters, front, last) refl
 
-begins_with_digit : (ds rest : List ℕ) → is_number_text ds ≡ true → (b : ℕ) × (text : List ℕ) × (is_digit b ≡ true) × (ds ++ rest ≡ b ∷ text)
+begins_with_digit : (ds rest : List ℕ) → is_number_text ds ≡ true → (b : ℕ) × (text : List ℕ) × (is_digit b ≡ true)
+    × (ds ++ rest ≡ b ∷ text)
 begins_with_digit [] rest h = absurd (false≢true h)
-begins_with_digit (b ∷ ds) rest h = (b, ds ++ rest, (and_parts (is_digit b) (list_all is_digit ds) (number_text_is_digits (b ∷ ds) h)).0, refl)
+begins_with_digit (b ∷ ds) rest h =
+    (b, ds ++ rest, (and_parts (is_digit b) (list_all is_digit ds) (number_text_is_digits (b ∷ ds) h)).0, refl)
 
 -- the text of a number, with the token that it is
 pub record NumberText (digits suffix : List ℕ) (kind : NumberKind) : Type 0 where
@@ -104,9 +114,12 @@ pub record NumberText (digits suffix : List ℕ) (kind : NumberKind) : Type 0 wh
   pub letters : list_all is_suffix_letter suffix ≡ true
   pub kind_is : suffix_kind suffix ≡ kind
 
-number_apart : (digits suffix rest : List ℕ) → is_number_text digits ≡ true → (l : Bool) → separator_length l ((digits ++ suffix) ++ rest) ≡ None
+number_apart : (digits suffix rest : List ℕ) → is_number_text digits ≡ true → (l : Bool)
+    → separator_length l ((digits ++ suffix) ++ rest) ≡ None
 number_apart [] suffix rest h l = absurd (false≢true h)
-number_apart (b ∷ ds) suffix rest h l = digit_begins_none l b ((ds ++ suffix) ++ rest) (and_parts (is_digit b) (list_all is_digit ds) (number_text_is_digits (b ∷ ds) h)).0
+number_apart (b ∷ ds) suffix rest h l =
+    digit_begins_none l b ((ds ++ suffix) ++ rest)
+    (and_parts (is_digit b) (list_all is_digit ds) (number_text_is_digits (b ∷ ds) h)).0
 
 kind_of : (digits suffix : List ℕ) (kind : NumberKind) → NumberText digits suffix kind → number_kind digits suffix ≡ kind
 unfolding number_kind
@@ -133,7 +146,8 @@ number_stands digits suffix kind h at rest ends =
     ∙ ap Some (number_cut digits suffix rest kind h at ends)
 
 -- a number that no byte of a word follows
-pub written_number_prints : {A : Type 0} {N : A → List Token → Type 0} {Is : A → Type 0} (source digits suffix : List ℕ) (kind : NumberKind) (value : ℕ → A) → NumberText digits suffix kind
+pub written_number_prints : {A : Type 0} {N : A → List Token → Type 0} {Is : A → Type 0} (source digits suffix : List ℕ)
+    (kind : NumberKind) (value : ℕ → A) → NumberText digits suffix kind
     → ((at : ℕ) → N (value at) (tokens.Number kind (place at (length (digits ++ suffix))) ∷ []))
     → ((at : ℕ) → text_of source (place at (length (digits ++ suffix))) ≡ digits ++ suffix → Is (value at))
     → Prints source word_end N Is (digits ++ suffix)

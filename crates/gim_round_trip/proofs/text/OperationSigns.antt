@@ -14,7 +14,8 @@ use Rattle.pm_places.specs.Spans.{place}
 use Rattle.grammar.specs.Spelling.{Meant}
 use Rattle.gim_statements.specs.Words.{comparison_code, infix_code}
 use Rattle.gim_round_trip.proofs.text.Prints.{Prints, any_end, blanks_before, blanks_after}
-use Rattle.gim_round_trip.proofs.text.Marks.{IsSpacedMark, one_byte, two_bytes, spaced, less_mark, greater_mark, slash_mark, spaced_mark_prints}
+use Rattle.gim_round_trip.proofs.text.Marks.{IsSpacedMark, one_byte, two_bytes, spaced, less_mark}
+use Rattle.gim_round_trip.proofs.text.Marks.{greater_mark, slash_mark, spaced_mark_prints}
 
 -- what stands between two operands
 abbrev pub is_infix : Code → Bool
@@ -73,7 +74,8 @@ sign_means : (code : Code) (span : Span) → is_infix code ≡ true → infix_co
 sign_means operations.Plus span h = cc
 sign_means code span h = cc
 
-comparison_means : (code : Code) (span : Span) → is_comparison_code code ≡ true → comparison_code (tokens.Mark (sign_mark code) span) ≡ Some code
+comparison_means : (code : Code) (span : Span) → is_comparison_code code ≡ true
+    → comparison_code (tokens.Mark (sign_mark code) span) ≡ Some code
 comparison_means operations.Eq span h = cc
 comparison_means code span h = cc
 
@@ -82,15 +84,22 @@ comparison_is_infix operations.Eq h = cc
 comparison_is_infix code h = cc
 
 -- a sign with a blank on both sides, by what its token means
-sign_between : (source : List ℕ) (meaning : Token → Option Code) (code : Code) → is_infix code ≡ true → ((span : Span) → meaning (tokens.Mark (sign_mark code) span) ≡ Some code)
+sign_between : (source : List ℕ) (meaning : Token → Option Code) (code : Code) → is_infix code ≡ true
+    → ((span : Span) → meaning (tokens.Mark (sign_mark code) span) ≡ Some code)
     → Prints source any_end (λ (u : Unit {0}). Meant meaning code) (λ u. Unit {0}) (codes " " ++ sign_text code ++ codes " ")
 sign_between source meaning code h means =
     let sign = sign_text code in
     blanks_after (codes " ") refl (λ rest. refl) (blanks_before (codes " ") refl
-    (spaced_mark_prints source sign (sign_mark code) (λ at. tt) (sign_spaced code h) (λ at. (tokens.Mark (sign_mark code) (place at (length sign)), means (place at (length sign)), refl)) (λ at e. tt)))
+    (spaced_mark_prints source sign (sign_mark code) (λ at. tt) (sign_spaced code h)
+    (λ at. (tokens.Mark (sign_mark code) (place at (length sign)), means (place at (length sign)), refl)) (λ at e. tt)))
 
-pub sign_prints : (source : List ℕ) (code : Code) → is_infix code ≡ true → Prints source any_end (λ (u : Unit {0}). Meant infix_code code) (λ u. Unit {0}) (codes " " ++ sign_text code ++ codes " ")
+pub sign_prints : (source : List ℕ) (code : Code) → is_infix code ≡ true
+    → Prints source any_end (λ (u : Unit {0}). Meant infix_code code) (λ u. Unit {0})
+    (codes " " ++ sign_text code ++ codes " ")
 sign_prints source code h = sign_between source infix_code code h (λ span. sign_means code span h)
 
-pub comparison_prints : (source : List ℕ) (code : Code) → is_comparison_code code ≡ true → Prints source any_end (λ (u : Unit {0}). Meant comparison_code code) (λ u. Unit {0}) (codes " " ++ sign_text code ++ codes " ")
-comparison_prints source code h = sign_between source comparison_code code (comparison_is_infix code h) (λ span. comparison_means code span h)
+pub comparison_prints : (source : List ℕ) (code : Code) → is_comparison_code code ≡ true
+    → Prints source any_end (λ (u : Unit {0}). Meant comparison_code code) (λ u. Unit {0})
+    (codes " " ++ sign_text code ++ codes " ")
+comparison_prints source code h =
+    sign_between source comparison_code code (comparison_is_infix code h) (λ span. comparison_means code span h)

@@ -42,11 +42,13 @@ Ends blank_end [] = ⊥
 Ends blank_end (b ∷ rest) = is_space b ≡ true
 
 -- Wherever the text stands in the source, with such an end, it is read so.
-pub record Prints {A : Type 0} (source : List ℕ) (end : Close) (N : A → List Token → Type 0) (Is : A → Type 0) (text : List ℕ) : Type 0 where
+pub record Prints {A : Type 0} (source : List ℕ) (end : Close) (N : A → List Token → Type 0) (Is : A → Type 0)
+    (text : List ℕ) : Type 0 where
   pub read : (at : ℕ) (rest : List ℕ) → Ends end rest → Left source at (text ++ rest) → Reads source at N Is rest
 
 -- one text behind another that may be followed by it
-pub joined : {A B : Type 0} {N : A → List Token → Type 0} {M : B → List Token → Type 0} {Is : A → Type 0} {Js : B → Type 0} {source : List ℕ} {first last : Close} {a b : List ℕ}
+pub joined : {A B : Type 0} {N : A → List Token → Type 0} {M : B → List Token → Type 0} {Is : A → Type 0}
+    {Js : B → Type 0} {source : List ℕ} {first last : Close} {a b : List ℕ}
     → Prints source first N Is a → ((rest : List ℕ) → Ends first (b ++ rest)) → Prints source last M Js b
     → Prints source last (λ (x : A × B). N x.0 ▸ M x.1) (λ x. Is x.0 × Js x.1) (a ++ b)
 joined {source = source} {a = a} {b = b} one follows two = record {
@@ -65,16 +67,27 @@ joined {source = source} {a = a} {b = b} one follows two = record {
 }
 
 -- the same read as another value
-pub seen : {A B : Type 0} {N : A → List Token → Type 0} {M : B → List Token → Type 0} {Is : A → Type 0} {Js : B → Type 0} {source : List ℕ} {end : Close} {a : List ℕ}
-    → Prints source end N Is a → (f : A → B) → ((x : A) (w : List Token) → Is x → N x w → M (f x) w) → ((x : A) → Is x → Js (f x)) → Prints source end M Js a
+pub seen : {A B : Type 0} {N : A → List Token → Type 0} {M : B → List Token → Type 0} {Is : A → Type 0}
+    {Js : B → Type 0} {source : List ℕ} {end : Close} {a : List ℕ}
+    → Prints source end N Is a → (f : A → B) → ((x : A) (w : List Token) → Is x → N x w → M (f x) w)
+    → ((x : A) → Is x → Js (f x)) → Prints source end M Js a
 seen one f spells holds = record {
   read = λ at rest ends left.
       let r = one.read at rest ends left in
-      record { value = f r.value; tokens = r.tokens; to = r.to; cut = r.cut; left = r.left; spelled = spells r.value r.tokens r.is r.spelled; is = holds r.value r.is };
+      record {
+        value = f r.value;
+        tokens = r.tokens;
+        to = r.to;
+        cut = r.cut;
+        left = r.left;
+        spelled = spells r.value r.tokens r.is r.spelled;
+        is = holds r.value r.is;
+      };
 }
 
 -- what may be followed by anything may be followed by less
-pub sooner : {A : Type 0} {N : A → List Token → Type 0} {Is : A → Type 0} {source : List ℕ} {end : Close} {a : List ℕ} → Prints source any_end N Is a → Prints source end N Is a
+pub sooner : {A : Type 0} {N : A → List Token → Type 0} {Is : A → Type 0} {source : List ℕ} {end : Close} {a : List ℕ}
+    → Prints source any_end N Is a → Prints source end N Is a
 sooner one = record {
   read = λ at rest ends left.
       one.read at rest tt left;
@@ -87,7 +100,8 @@ unfolding separator_length
 space_separates l b rest h = rw h refl
 
 -- white space is cut away
-pub blanks_cut : (source : List ℕ) (at : ℕ) (blanks rest : List ℕ) → list_all is_space blanks ≡ true → Left source at (blanks ++ rest) → Cuts source at [] (at + length blanks)
+pub blanks_cut : (source : List ℕ) (at : ℕ) (blanks rest : List ℕ) → list_all is_space blanks ≡ true
+    → Left source at (blanks ++ rest) → Cuts source at [] (at + length blanks)
 blanks_cut source at [] rest h left = let e : at + 0 ≡ at = omega arith in subst (Cuts source at []) (sym e) (done at)
 blanks_cut source at (b ∷ blanks) rest h left =
     let p = and_parts (is_space b) (list_all is_space blanks) h in
@@ -96,9 +110,11 @@ blanks_cut source at (b ∷ blanks) rest h left =
     ∙ ap (option_map (λ n. at + n)) (space_separates (line_begins source at) b (blanks ++ rest) p.0) in
     let next : Left source (at + 1) (blanks ++ rest) = behind source at (b ∷ []) (blanks ++ rest) left in
     let e : at + 1 + length blanks ≡ at + length (b ∷ blanks) = omega arith in
-    separator at (at + 1) (at + length (b ∷ blanks)) [] here (subst (Cuts source (at + 1) []) e (blanks_cut source (at + 1) blanks rest p.1 next))
+    separator at (at + 1) (at + length (b ∷ blanks)) [] here
+    (subst (Cuts source (at + 1) []) e (blanks_cut source (at + 1) blanks rest p.1 next))
 
-pub blanks_before : {A : Type 0} {N : A → List Token → Type 0} {Is : A → Type 0} {source : List ℕ} {end : Close} {a : List ℕ} (blanks : List ℕ)
+pub blanks_before : {A : Type 0} {N : A → List Token → Type 0} {Is : A → Type 0} {source : List ℕ} {end : Close}
+    {a : List ℕ} (blanks : List ℕ)
     → list_all is_space blanks ≡ true → Prints source end N Is a → Prints source end N Is (blanks ++ a)
 blanks_before {source = source} {a = a} blanks all one = record {
   read = λ at rest ends left.
@@ -115,8 +131,10 @@ blanks_before {source = source} {a = a} blanks all one = record {
       };
 }
 
-pub blanks_after : {A : Type 0} {N : A → List Token → Type 0} {Is : A → Type 0} {source : List ℕ} {first last : Close} {a : List ℕ} (blanks : List ℕ)
-    → list_all is_space blanks ≡ true → ((rest : List ℕ) → Ends first (blanks ++ rest)) → Prints source first N Is a → Prints source last N Is (a ++ blanks)
+pub blanks_after : {A : Type 0} {N : A → List Token → Type 0} {Is : A → Type 0} {source : List ℕ} {first last : Close}
+    {a : List ℕ} (blanks : List ℕ)
+    → list_all is_space blanks ≡ true → ((rest : List ℕ) → Ends first (blanks ++ rest)) → Prints source first N Is a
+    → Prints source last N Is (a ++ blanks)
 blanks_after {source = source} {a = a} blanks all follows one = record {
   read = λ at rest ends left.
       let r = one.read at (blanks ++ rest) (follows rest) (subst (Left source at) (append_assoc a blanks rest) left) in
@@ -135,7 +153,8 @@ blanks_after {source = source} {a = a} blanks all follows one = record {
 -- ---- one token
 
 -- A text that is one token wherever it stands. What the token is may depend on the place
-pub token_prints : {A : Type 0} {N : A → List Token → Type 0} {Is : A → Type 0} (source : List ℕ) (end : Close) (bs : List ℕ) (make : ℕ → Token) (value : ℕ → A)
+pub token_prints : {A : Type 0} {N : A → List Token → Type 0} {Is : A → Type 0} (source : List ℕ) (end : Close)
+    (bs : List ℕ) (make : ℕ → Token) (value : ℕ → A)
     → ((l : Bool) (rest : List ℕ) → Ends end rest → separator_length l (bs ++ rest) ≡ None)
     → ((at : ℕ) (rest : List ℕ) → Ends end rest → token_of_text at (bs ++ rest) ≡ Some (make at))
     → ((at : ℕ) → span_of (make at) ≡ place at (length bs))
@@ -149,7 +168,8 @@ token_prints source end bs make value apart begins stands spells holds = record 
       ∙ ap (option_map (λ n. at + n)) (apart (line_begins source at) rest ends) in
       let some : token_at source at ≡ Some (make at) = ap (token_of_text at) left.is ∙ begins at rest ends in
       let to : (span_of (make at)).to ≡ at + length bs = ap (λ (s : Span). s.to) (stands at) in
-      let rest_cut : Cuts source (span_of (make at)).to [] (at + length bs) = subst (λ n. Cuts source n [] (at + length bs)) (sym to) (done (at + length bs)) in
+      let rest_cut : Cuts source (span_of (make at)).to [] (at + length bs) =
+      subst (λ n. Cuts source n [] (at + length bs)) (sym to) (done (at + length bs)) in
       record {
         value = value at;
         tokens = make at ∷ [];

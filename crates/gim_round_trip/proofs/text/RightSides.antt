@@ -12,7 +12,9 @@ use Rattle.gim_ast.specs.declared.function.Function.{Function}
 use Rattle.gim_ast.specs.declared.function.Rhs.{Rhs}
 use Rattle.gim_ast.specs.declared.function.Rhs.TheVariants as sides
 use Rattle.gim_ast.specs.Functions.{operands_of_rhs}
-use Rattle.gim_printer.specs.Printing.{type_text, operand_text, negated_text, prefix_text, sign_text, unary_text, infix_text, binary_text, ternary_text, operation_text, rhs_text}
+use Rattle.gim_printer.specs.Printing.{type_text, operand_text, negated_text, prefix_text, sign_text}
+use Rattle.gim_printer.specs.Printing.{unary_text, infix_text, binary_text, ternary_text, operation_text}
+use Rattle.gim_printer.specs.Printing.{rhs_text}
 use Rattle.gim_ast.specs.WellFormed.{IsWellFormed, is_type_of, operand_holds, rhs_fits, type_of}
 use Rattle.gim_text.specs.Meanings.{identifier, span_of}
 use Rattle.pm_places.specs.declared.span.Span.{Span}
@@ -27,7 +29,7 @@ use Rattle.gim_text.specs.declared.tree.OperandText.TheVariants.{Name, Default, 
 use Rattle.gim_text.specs.declared.tree.RightText.{RightText}
 use Rattle.gim_text.specs.declared.tree.RightForm.{RightForm}
 use Rattle.gim_text.specs.declared.tree.RightForm.TheVariants.{Copy, Unary, Cast, Binary, Choice}
-use Rattle.gim_making.proofs.Membership.{Has}
+use Rattle.gim_text.proofs.Membership.{Has}
 use Rattle.gim_statements.specs.Words.{prefix_code, call_code}
 use Rattle.gim_statements.specs.Grammar.{◌▸◌, AMark, SpellsOperand, MayStandUnder, SpellsForm, SpellsRight}
 use Rattle.gim_round_trip.specs.ReadBack.{IsWithinLimits}
@@ -81,20 +83,33 @@ with_start : (form : RightForm) (w : List Token) → SpellsForm form w → (righ
 with_start form [] h = absurd (form_has_token form h)
 with_start form (t ∷ w) h = (record { start = span_of t; form = form }, (refl, h), refl)
 
-started : {Is : RightForm → Type 0} {source : List ℕ} {end : Close} {a : List ℕ} → Prints source end SpellsForm Is a → Prints source end SpellsRight (λ right. Is right.form) a
+started : {Is : RightForm → Type 0} {source : List ℕ} {end : Close} {a : List ℕ} → Prints source end SpellsForm Is a
+    → Prints source end SpellsRight (λ right. Is right.form) a
 started {Is = Is} one = record {
   read = λ at rest ends left.
       let r = one.read at rest ends left in
       let right = with_start r.value r.tokens r.spelled in
-      record { value = right.0; tokens = r.tokens; to = r.to; cut = r.cut; left = r.left; spelled = right.1; is = subst Is (sym right.2) r.is };
+      record {
+        value = right.0;
+        tokens = r.tokens;
+        to = r.to;
+        cut = r.cut;
+        left = r.left;
+        spelled = right.1;
+        is = subst Is (sym right.2) r.is;
+      };
 }
 
 -- ---- what the sign of an operation means
 
-mark_of : (source : List ℕ) (meaning : Token → Option Code) (op : Code) (m : Mark) → is_plain_mark m ≡ true → ((at : Span) → meaning (tokens.Mark m at) ≡ Some op) → Quiet source any_end (Meant meaning op) (plain_mark_text m)
-mark_of source meaning op m plain means = seen (mark_there source m plain) (λ at. tt) (λ at w is e. (tokens.Mark m at, means at, e)) (λ at is. tt)
+mark_of : (source : List ℕ) (meaning : Token → Option Code) (op : Code) (m : Mark) → is_plain_mark m ≡ true
+    → ((at : Span) → meaning (tokens.Mark m at) ≡ Some op) → Quiet source any_end (Meant meaning op) (plain_mark_text m)
+mark_of source meaning op m plain means =
+    seen (mark_there source m plain) (λ at. tt) (λ at w is e. (tokens.Mark m at, means at, e)) (λ at is. tt)
 
-word_of : (source : List ℕ) (meaning : Token → Option Code) (op : Code) (k : Keyword) → ((at : Span) → meaning (tokens.Keyword k at) ≡ Some op) → Quiet source word_end (Meant meaning op) (keyword_text k)
+word_of : (source : List ℕ) (meaning : Token → Option Code) (op : Code) (k : Keyword)
+    → ((at : Span) → meaning (tokens.Keyword k at) ≡ Some op)
+    → Quiet source word_end (Meant meaning op) (keyword_text k)
 word_of source meaning op k means = seen (keyword_there source k) (λ at. tt) (λ at w is e. (tokens.Keyword k at, means at, e)) (λ at is. tt)
 
 -- ---- one operand
@@ -107,28 +122,39 @@ cast_prints : (source : List ℕ) (f : Function) (t : Ty) (a : Operand) → is_t
     → FormIsRead source f t (sides.Op operations.Convert (a ∷ [])) ((codes "(" ++ type_text t ++ codes ") ") ++ operand_text f a)
 cast_prints source f t a is one =
     let whole = lead (a_mark_prints source marks.Open refl) (λ rest. tt)
-    (lead (type_prints source t is) (λ rest. refl) (lead (a_mark_prints source marks.Close refl) (λ rest. tt) (blanks_before (codes " ") refl one))) in
+    (lead (type_prints source t is) (λ rest. refl)
+    (lead (a_mark_prints source marks.Close refl) (λ rest. tt) (blanks_before (codes " ") refl one))) in
     told (ap (λ bs. codes "(" ++ bs) (sym (append_assoc (type_text t) (codes ") ") (operand_text f a))))
     (seen whole (λ tree. Cast t tree) (λ tree w is h. h) (λ tree is. (refl, refl, is)))
 
 negate_prints : (source : List ℕ) (f : Function) (t : Ty) (a : Operand)
-    → Prints source word_end (λ (tree : OperandText) (w : List Token). MayStandUnder operations.Negate tree × SpellsOperand tree w) (λ tree. WritesOperand source f tree a) (negated_text f a)
+    → Prints source word_end (λ (tree : OperandText) (w : List Token). MayStandUnder operations.Negate tree
+    × SpellsOperand tree w) (λ tree. WritesOperand source f tree a) (negated_text f a)
     → FormIsRead source f t (sides.Op operations.Negate (a ∷ [])) (codes "-" ++ negated_text f a)
 negate_prints source f t a one =
     let sign = mark_of source prefix_code operations.Negate marks.Minus refl (λ at. refl) in
-    seen (lead sign (λ rest. tt) one) (λ tree. Unary operations.Negate tree) (λ tree w is h. (h.3.0, (h.0, h.1, h.2, h.3.1, h.4))) (λ tree is. (refl, is))
+    seen (lead sign (λ rest. tt) one) (λ tree. Unary operations.Negate tree)
+    (λ tree w is h. (h.3.0, (h.0, h.1, h.2, h.3.1, h.4))) (λ tree is. (refl, is))
 
-prefix_prints : (source : List ℕ) (f : Function) (t : Ty) (op : Code) (a : Operand) (bs : List ℕ) → ((tree : OperandText) → MayStandUnder op tree)
-    → Quiet source any_end (Meant prefix_code op) bs → IsRead source f a → FormIsRead source f t (sides.Op op (a ∷ [])) (bs ++ operand_text f a)
-prefix_prints source f t op a bs may sign one = seen (lead sign (λ rest. tt) one) (λ tree. Unary op tree) (λ tree w is h. (may tree, h)) (λ tree is. (refl, is))
+prefix_prints : (source : List ℕ) (f : Function) (t : Ty) (op : Code) (a : Operand) (bs : List ℕ)
+    → ((tree : OperandText) → MayStandUnder op tree)
+    → Quiet source any_end (Meant prefix_code op) bs → IsRead source f a
+    → FormIsRead source f t (sides.Op op (a ∷ [])) (bs ++ operand_text f a)
+prefix_prints source f t op a bs may sign one =
+    seen (lead sign (λ rest. tt) one) (λ tree. Unary op tree) (λ tree w is h. (may tree, h)) (λ tree is. (refl, is))
 
 unary_prints : (source : List ℕ) (f : Function) (t : Ty) (op : Code) (a : Operand) → IsWellFormed f → IsWithinLimits f
-    → is_type_of t ≡ true → operand_holds f a ≡ true → well_typed_unary op t (type_of a) ≡ true → FormIsRead source f t (sides.Op op (a ∷ [])) (unary_text f t op a)
+    → is_type_of t ≡ true → operand_holds f a ≡ true → well_typed_unary op t (type_of a) ≡ true
+    → FormIsRead source f t (sides.Op op (a ∷ [])) (unary_text f t op a)
 unfolding prefix_text
-unary_prints source f t operations.Convert a well limits is holds typed = cast_prints source f t a is (operand_prints source f a well limits holds)
-unary_prints source f t operations.Negate a well limits is holds typed = negate_prints source f t a (negated_prints source f a well limits holds)
+unary_prints source f t operations.Convert a well limits is holds typed =
+    cast_prints source f t a is (operand_prints source f a well limits holds)
+unary_prints source f t operations.Negate a well limits is holds typed =
+    negate_prints source f t a (negated_prints source f a well limits holds)
 unary_prints source f t operations.BitNot a well limits is holds typed =
-    prefix_prints source f t operations.BitNot a (codes "~") (λ tree. tt) (mark_of source prefix_code operations.BitNot marks.Tilde refl (λ at. refl)) (operand_prints source f a well limits holds)
+    prefix_prints source f t operations.BitNot a (codes "~") (λ tree. tt)
+    (mark_of source prefix_code operations.BitNot marks.Tilde refl (λ at. refl))
+    (operand_prints source f a well limits holds)
 unary_prints source f t operations.Abs a well limits is holds typed =
     let sign = blanks_after (codes " ") refl (λ rest. refl) (word_of source prefix_code operations.Abs keywords.Abs (λ at. refl)) in
     prefix_prints source f t operations.Abs a (codes "__ABS ") (λ tree. tt) sign (operand_prints source f a well limits holds)
@@ -142,24 +168,32 @@ unary_prints source f t op a well limits is holds typed = absurd (false≢true t
 infix_whole : (a sign b : List ℕ) → a ++ ((codes " " ++ sign ++ codes " ") ++ b) ≡ a ++ codes " " ++ sign ++ codes " " ++ b
 infix_whole a sign b = simp append_assoc
 
-infix_prints : (source : List ℕ) (f : Function) (t : Ty) (op : Code) (a b : Operand) → is_infix op ≡ true → IsRead source f a → IsRead source f b
+infix_prints : (source : List ℕ) (f : Function) (t : Ty) (op : Code) (a b : Operand) → is_infix op ≡ true
+    → IsRead source f a → IsRead source f b
     → FormIsRead source f t (sides.Op op (a ∷ b ∷ [])) (infix_text f op a b)
 infix_prints source f t op a b is one two =
     let whole = joined one (λ rest. refl) (lead (sign_prints source op is) (λ rest. tt) two) in
     told (infix_whole (operand_text f a) (sign_text op) (operand_text f b))
     (seen whole (λ trees. Binary op trees.0 trees.1) (λ trees w is h. inl h) (λ trees is. (refl, is.0, is.1)))
 
-call_whole : (word a b : List ℕ) → word ++ (codes " (" ++ (a ++ (codes ", " ++ (b ++ codes ")")))) ≡ word ++ codes " (" ++ a ++ codes ", " ++ b ++ codes ")"
+call_whole : (word a b : List ℕ) → word ++ (codes " (" ++ (a ++ (codes ", " ++ (b ++ codes ")")))) ≡ word ++ codes " ("
+    ++ a ++ codes ", " ++ b ++ codes ")"
 call_whole word a b = simp append_assoc
 
 call_prints : (source : List ℕ) (f : Function) (t : Ty) (op : Code) (word : Keyword) (a b : Operand)
     → ((at : Span) → call_code (tokens.Keyword word at) ≡ Some op) → IsRead source f a → IsRead source f b
-    → FormIsRead source f t (sides.Op op (a ∷ b ∷ [])) (keyword_text word ++ codes " (" ++ operand_text f a ++ codes ", " ++ operand_text f b ++ codes ")")
+    → FormIsRead source f t (sides.Op op (a ∷ b ∷ []))
+    (keyword_text word ++ codes " (" ++ operand_text f a ++ codes ", " ++ operand_text f b ++ codes ")")
 call_prints source f t op word a b means one two =
     let called = word_of source call_code op word means in
-    let inner = joined one (λ rest. refl) (lead (a_mark_prints source marks.Comma refl) (λ rest. tt) (blanks_before (codes " ") refl (trail two (λ rest. refl) (a_mark_prints source marks.Close refl)))) in
-    let whole = lead called (λ rest. refl) (blanks_before (codes " ") refl (lead (a_mark_prints source marks.Open refl) (λ rest. tt) inner)) in
-    told (call_whole (keyword_text word) (operand_text f a) (operand_text f b)) (sooner (seen whole (λ trees. Binary op trees.0 trees.1) (λ trees w is h. inr h) (λ trees is. (refl, is.0, is.1))))
+    let inner =
+    joined one (λ rest. refl) (lead (a_mark_prints source marks.Comma refl) (λ rest. tt)
+    (blanks_before (codes " ") refl (trail two (λ rest. refl) (a_mark_prints source marks.Close refl)))) in
+    let whole =
+    lead called (λ rest. refl) (blanks_before (codes " ") refl
+    (lead (a_mark_prints source marks.Open refl) (λ rest. tt) inner)) in
+    told (call_whole (keyword_text word) (operand_text f a) (operand_text f b))
+    (sooner (seen whole (λ trees. Binary op trees.0 trees.1) (λ trees w is h. inr h) (λ trees is. (refl, is.0, is.1))))
 
 abbrev is_call : Code → Bool
 is_call operations.Min = true
@@ -174,7 +208,8 @@ binary_prints : (source : List ℕ) (f : Function) (t : Ty) (op : Code) (a b : O
     → well_typed_binary op t (type_of a) (type_of b) ≡ true → FormIsRead source f t (sides.Op op (a ∷ b ∷ [])) (binary_text f op a b)
 binary_prints source f t operations.Min a b one two typed = call_prints source f t operations.Min keywords.Min a b (λ at. refl) one two
 binary_prints source f t operations.Max a b one two typed = call_prints source f t operations.Max keywords.Max a b (λ at. refl) one two
-binary_prints source f t op a b one two typed = infix_prints source f t op a b (typed_is_infix op t (type_of a) (type_of b) refl typed) one two
+binary_prints source f t op a b one two typed =
+    infix_prints source f t op a b (typed_is_infix op t (type_of a) (type_of b) refl typed) one two
 
 -- ---- three operands
 
@@ -191,8 +226,10 @@ choice_prints source f t a b c one two three =
     told (choice_whole (operand_text f a) (operand_text f b) (operand_text f c))
     (seen whole (λ trees. Choice trees.0 trees.1.0 trees.1.1) (λ trees w is h. h) (λ trees is. (refl, is.0, is.1.0, is.1.1)))
 
-ternary_prints : (source : List ℕ) (f : Function) (t : Ty) (op : Code) (a b c : Operand) → IsRead source f a → IsRead source f b → IsRead source f c
-    → well_typed_ternary op t (type_of a) (type_of b) (type_of c) ≡ true → FormIsRead source f t (sides.Op op (a ∷ b ∷ c ∷ [])) (ternary_text f a b c)
+ternary_prints : (source : List ℕ) (f : Function) (t : Ty) (op : Code) (a b c : Operand) → IsRead source f a
+    → IsRead source f b → IsRead source f c
+    → well_typed_ternary op t (type_of a) (type_of b) (type_of c) ≡ true
+    → FormIsRead source f t (sides.Op op (a ∷ b ∷ c ∷ [])) (ternary_text f a b c)
 ternary_prints source f t operations.Cond a b c one two three typed = choice_prints source f t a b c one two three
 ternary_prints source f t op a b c one two three typed = absurd (false≢true typed)
 
@@ -201,8 +238,10 @@ ternary_prints source f t op a b c one two three typed = absurd (false≢true ty
 abbrev pub OperandsHold : Function → List Operand → Type 0
 OperandsHold f operands = (a : Operand) → Has operands a → operand_holds f a ≡ true
 
-operation_prints : (source : List ℕ) (f : Function) (t : Ty) (op : Code) (operands : List Operand) → IsWellFormed f → IsWithinLimits f → is_type_of t ≡ true → OperandsHold f operands
-    → well_typed_operation op t (map type_of operands) ≡ true → FormIsRead source f t (sides.Op op operands) (operation_text f t op operands)
+operation_prints : (source : List ℕ) (f : Function) (t : Ty) (op : Code) (operands : List Operand) → IsWellFormed f
+    → IsWithinLimits f → is_type_of t ≡ true → OperandsHold f operands
+    → well_typed_operation op t (map type_of operands) ≡ true
+    → FormIsRead source f t (sides.Op op operands) (operation_text f t op operands)
 unfolding operation_text well_typed_operation
 operation_prints source f t op [] well limits is hold typed = absurd (false≢true typed)
 operation_prints source f t op (a ∷ []) well limits is hold typed = unary_prints source f t op a well limits is (hold a (inl refl)) typed
@@ -217,13 +256,18 @@ operation_prints source f t op (a ∷ b ∷ c ∷ []) well limits is hold typed 
     ternary_prints source f t op a b c one two three typed
 operation_prints source f t op (a ∷ b ∷ c ∷ d ∷ others) well limits is hold typed = absurd (false≢true typed)
 
-form_prints : (source : List ℕ) (f : Function) (t : Ty) (rhs : Rhs) → IsWellFormed f → IsWithinLimits f → is_type_of t ≡ true → OperandsHold f (operands_of_rhs rhs)
+form_prints : (source : List ℕ) (f : Function) (t : Ty) (rhs : Rhs) → IsWellFormed f → IsWithinLimits f
+    → is_type_of t ≡ true → OperandsHold f (operands_of_rhs rhs)
     → rhs_fits t rhs ≡ true → FormIsRead source f t rhs (rhs_text f t rhs)
 unfolding rhs_text
-form_prints source f t (sides.Copy a) well limits is hold fits = seen (operand_prints source f a well limits (hold a (inl refl))) (λ tree. Copy tree) (λ tree w is h. h) (λ tree is. is)
+form_prints source f t (sides.Copy a) well limits is hold fits =
+    seen (operand_prints source f a well limits (hold a (inl refl))) (λ tree. Copy tree) (λ tree w is h. h)
+    (λ tree is. is)
 form_prints source f t (sides.Op op operands) well limits is hold fits = operation_prints source f t op operands well limits is hold fits
 
 -- a right side of a type, on operands that hold
-pub right_prints : (source : List ℕ) (f : Function) (t : Ty) (rhs : Rhs) → IsWellFormed f → IsWithinLimits f → is_type_of t ≡ true → OperandsHold f (operands_of_rhs rhs)
-    → rhs_fits t rhs ≡ true → Prints source word_end SpellsRight (λ (right : RightText). WritesForm source f t right.form rhs) (rhs_text f t rhs)
+pub right_prints : (source : List ℕ) (f : Function) (t : Ty) (rhs : Rhs) → IsWellFormed f → IsWithinLimits f
+    → is_type_of t ≡ true → OperandsHold f (operands_of_rhs rhs)
+    → rhs_fits t rhs ≡ true → Prints source word_end SpellsRight
+    (λ (right : RightText). WritesForm source f t right.form rhs) (rhs_text f t rhs)
 right_prints source f t rhs well limits is hold fits = started (form_prints source f t rhs well limits is hold fits)

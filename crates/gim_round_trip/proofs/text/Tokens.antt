@@ -31,10 +31,13 @@ use Rattle.gim_round_trip.proofs.text.Marks.{IsMarkText, one_byte, mark_text_pri
 -- ---- words
 
 -- an identifier that isn't reserved
-pub identifier_prints : (source bs : List ℕ) → is_identifier bs ≡ true → Prints source word_end (λ (at : Span). Meant identifier at) (λ at. text_of source at ≡ bs) bs
+pub identifier_prints : (source bs : List ℕ) → is_identifier bs ≡ true
+    → Prints source word_end (λ (at : Span). Meant identifier at) (λ at. text_of source at ≡ bs) bs
 identifier_prints source bs h =
     let word = identifier_is_word bs h in
-    word_prints source bs (λ at. place at (length bs)) word.text (λ at. (word_token bs (place at (length bs)), identifier_means bs (place at (length bs)) word.free, refl)) (λ at e. e)
+    word_prints source bs (λ at. place at (length bs)) word.text
+    (λ at. (word_token bs (place at (length bs)), identifier_means bs (place at (length bs)) word.free, refl))
+    (λ at e. e)
 
 ssa_token : (span : Span) → word_token (codes "ssa") span ≡ tokens.Ssa span
 unfolding word_token
@@ -42,7 +45,9 @@ ssa_token span = refl
 
 -- the same option, seen as the token of its own
 pub ssa_word_prints : (source : List ℕ) → Prints source word_end (λ (u : Unit {0}). IsSsa) (λ u. Unit {0}) (codes "ssa")
-ssa_word_prints source = word_prints source (codes "ssa") (λ at. tt) refl (λ at. (place at 3, ap (λ t. t ∷ []) (ssa_token (place at 3)))) (λ at e. tt)
+ssa_word_prints source =
+    word_prints source (codes "ssa") (λ at. tt) refl (λ at. (place at 3, ap (λ t. t ∷ []) (ssa_token (place at 3))))
+    (λ at e. tt)
 
 -- the word of a reserved keyword
 abbrev pub keyword_text : Keyword → List ℕ
@@ -75,15 +80,21 @@ keyword_itself keywords.Gimple span = refl
 keyword_itself k span = refl
 
 -- a keyword, by its very token
-pub keyword_there : (source : List ℕ) (k : Keyword) → Prints source word_end (λ (at : Span) (w : List Token). w ≡ tokens.Keyword k at ∷ []) (λ at. Unit {0}) (keyword_text k)
+pub keyword_there : (source : List ℕ) (k : Keyword)
+    → Prints source word_end (λ (at : Span) (w : List Token). w ≡ tokens.Keyword k at ∷ []) (λ at. Unit {0})
+    (keyword_text k)
 keyword_there source k =
-    word_prints source (keyword_text k) (λ at. place at (length (keyword_text k))) (keyword_is_word k) (λ at. ap (λ t. t ∷ []) (keyword_token k (place at (length (keyword_text k))))) (λ at e. tt)
+    word_prints source (keyword_text k) (λ at. place at (length (keyword_text k))) (keyword_is_word k)
+    (λ at. ap (λ t. t ∷ []) (keyword_token k (place at (length (keyword_text k))))) (λ at e. tt)
 
-pub keyword_prints : (source : List ℕ) (k : Keyword) → Prints source word_end (λ (at : Span). Meant (keyword k) at) (λ at. Unit {0}) (keyword_text k)
-keyword_prints source k = seen (keyword_there source k) (λ at. at) (λ at w is e. (tokens.Keyword k at, keyword_itself k at, e)) (λ at is. tt)
+pub keyword_prints : (source : List ℕ) (k : Keyword)
+    → Prints source word_end (λ (at : Span). Meant (keyword k) at) (λ at. Unit {0}) (keyword_text k)
+keyword_prints source k =
+    seen (keyword_there source k) (λ at. at) (λ at w is e. (tokens.Keyword k at, keyword_itself k at, e)) (λ at is. tt)
 
 -- a keyword at any place
-pub a_keyword_prints : (source : List ℕ) (k : Keyword) → Prints source word_end (λ (u : Unit {0}). AKeyword k) (λ u. Unit {0}) (keyword_text k)
+pub a_keyword_prints : (source : List ℕ) (k : Keyword)
+    → Prints source word_end (λ (u : Unit {0}). AKeyword k) (λ u. Unit {0}) (keyword_text k)
 a_keyword_prints source k = seen (keyword_prints source k) (λ at. tt) (λ at w is meant. (at, meant)) (λ at is. tt)
 
 -- ---- marks
@@ -130,22 +141,33 @@ mark_itself marks.Open span = refl
 mark_itself m span = refl
 
 -- a mark, by its very token
-pub mark_there : (source : List ℕ) (m : Mark) → is_plain_mark m ≡ true → Prints source any_end (λ (at : Span) (w : List Token). w ≡ tokens.Mark m at ∷ []) (λ at. Unit {0}) (plain_mark_text m)
-mark_there source m h = mark_text_prints source (plain_mark_text m) m (λ at. place at (length (plain_mark_text m))) (plain_mark m h) (λ at. refl) (λ at e. tt)
+pub mark_there : (source : List ℕ) (m : Mark) → is_plain_mark m ≡ true
+    → Prints source any_end (λ (at : Span) (w : List Token). w ≡ tokens.Mark m at ∷ []) (λ at. Unit {0})
+    (plain_mark_text m)
+mark_there source m h =
+    mark_text_prints source (plain_mark_text m) m (λ at. place at (length (plain_mark_text m))) (plain_mark m h)
+    (λ at. refl) (λ at e. tt)
 
-pub mark_prints : (source : List ℕ) (m : Mark) → is_plain_mark m ≡ true → Prints source any_end (λ (at : Span). Meant (mark m) at) (λ at. Unit {0}) (plain_mark_text m)
+pub mark_prints : (source : List ℕ) (m : Mark) → is_plain_mark m ≡ true
+    → Prints source any_end (λ (at : Span). Meant (mark m) at) (λ at. Unit {0}) (plain_mark_text m)
 mark_prints source m h = seen (mark_there source m h) (λ at. at) (λ at w is e. (tokens.Mark m at, mark_itself m at, e)) (λ at is. tt)
 
 -- a mark at any place
-pub a_mark_prints : (source : List ℕ) (m : Mark) → is_plain_mark m ≡ true → Prints source any_end (λ (u : Unit {0}). AMark m) (λ u. Unit {0}) (plain_mark_text m)
+pub a_mark_prints : (source : List ℕ) (m : Mark) → is_plain_mark m ≡ true
+    → Prints source any_end (λ (u : Unit {0}). AMark m) (λ u. Unit {0}) (plain_mark_text m)
 a_mark_prints source m h = seen (mark_prints source m h) (λ at. tt) (λ at w is meant. (at, meant)) (λ at is. tt)
 
 -- `=` and `;` before white space
 pub assign_prints : (source : List ℕ) → Prints source blank_end (λ (at : Span). Meant (mark marks.Assign) at) (λ at. Unit {0}) (codes "=")
-assign_prints source = spaced_mark_prints source (codes "=") marks.Assign (λ at. place at 1) assign_mark (λ at. (tokens.Mark marks.Assign (place at 1), refl, refl)) (λ at e. tt)
+assign_prints source =
+    spaced_mark_prints source (codes "=") marks.Assign (λ at. place at 1) assign_mark
+    (λ at. (tokens.Mark marks.Assign (place at 1), refl, refl)) (λ at e. tt)
 
-pub semicolon_prints : (source : List ℕ) → Prints source blank_end (λ (at : Span). Meant (mark marks.Semicolon) at) (λ at. Unit {0}) (codes ";")
-semicolon_prints source = spaced_mark_prints source (codes ";") marks.Semicolon (λ at. place at 1) semicolon_mark (λ at. (tokens.Mark marks.Semicolon (place at 1), refl, refl)) (λ at e. tt)
+pub semicolon_prints : (source : List ℕ) → Prints source blank_end (λ (at : Span). Meant (mark marks.Semicolon) at)
+    (λ at. Unit {0}) (codes ";")
+semicolon_prints source =
+    spaced_mark_prints source (codes ";") marks.Semicolon (λ at. place at 1) semicolon_mark
+    (λ at. (tokens.Mark marks.Semicolon (place at 1), refl, refl)) (λ at e. tt)
 
 -- ---- blocks and numbers
 
@@ -155,16 +177,25 @@ block_token [] span h = absurd (false≢true h)
 block_token (d ∷ ds) span h = rw h refl
 
 -- `__BBn`
-pub block_word_prints : (source : List ℕ) (n : ℕ) → n < 2 ^ 64 → Prints source word_end (λ (at : Span). Meant block_word at) (λ at. NamesBlock source at n) (codes "__BB" ++ decimal n)
+pub block_word_prints : (source : List ℕ) (n : ℕ) → n < 2 ^ 64
+    → Prints source word_end (λ (at : Span). Meant block_word at) (λ at. NamesBlock source at n)
+    (codes "__BB" ++ decimal n)
 block_word_prints source n small =
     let bs = codes "__BB" ++ decimal n in
     word_prints source bs (λ at. place at (length bs)) (number_is_word (decimal n) (decimal_is_number_text n small))
-    (λ at. (word_token bs (place at (length bs)), ap block_word (block_token (decimal n) (place at (length bs)) (decimal_is_number_text n small)), refl)) (λ at e. ap (drop 4) e)
+    (λ at. (
+      word_token bs (place at (length bs)),
+      ap block_word (block_token (decimal n) (place at (length bs)) (decimal_is_number_text n small)),
+      refl,
+    ))
+    (λ at e. ap (drop 4) e)
 
 -- a number without a suffix
-pub number_prints : (source : List ℕ) (n : ℕ) → n < 2 ^ 64 → Prints source word_end (λ (at : Span). Meant plain_number at) (λ at. text_of source at ≡ decimal n) (decimal n)
+pub number_prints : (source : List ℕ) (n : ℕ) → n < 2 ^ 64
+    → Prints source word_end (λ (at : Span). Meant plain_number at) (λ at. text_of source at ≡ decimal n) (decimal n)
 number_prints source n small =
     let bs = decimal n ++ [] in
     subst (Prints source word_end (λ (at : Span). Meant plain_number at) (λ at. text_of source at ≡ decimal n)) (append-nil (decimal n))
-    (written_number_prints source (decimal n) [] Plain (λ at. place at (length bs)) (record { number = decimal_is_number_text n small; letters = refl; kind_is = refl })
+    (written_number_prints source (decimal n) [] Plain (λ at. place at (length bs))
+    (record { number = decimal_is_number_text n small; letters = refl; kind_is = refl })
     (λ at. (tokens.Number Plain (place at (length bs)), refl, refl)) (λ at e. e ∙ append-nil (decimal n)))

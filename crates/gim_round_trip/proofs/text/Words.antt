@@ -1,5 +1,6 @@
 -- Texts of one word, and where runs of bytes end.
-use Rattle.std.proofs.Common.{◌≡◌, ℕ, suc, Bool, true, false, cond, Some, None, List, [], ◌∷◌, ◌++◌, map, length, take, codes, refl, sym, ap, ◌∙◌, arith, one-add}
+use Rattle.std.proofs.Common.{◌≡◌, ℕ, suc, Bool, true, false, cond, Some, None, List, [], ◌∷◌, ◌++◌}
+use Rattle.std.proofs.Common.{map, length, take, codes, refl, sym, ap, ◌∙◌, arith, one-add}
 use Rattle.std.specs.Prelude.{option_map, find, ◌==◌, ◌||◌, not}
 use Rattle.std.specs.List.{prefix_len, list_all, list_any}
 use Rattle.std.specs.Str.{bytes_eq}
@@ -41,7 +42,8 @@ word_run_ends (b ∷ rest) ends = rw ends refl
 -- ---- separators
 
 -- No separator begins with another byte than white space, `/` and `;`.
-pub begins_none : (l : Bool) (b : ℕ) (text : List ℕ) → is_space b ≡ false → (47 == b) ≡ false → (59 == b) ≡ false → separator_length l (b ∷ text) ≡ None
+pub begins_none : (l : Bool) (b : ℕ) (text : List ℕ) → is_space b ≡ false → (47 == b) ≡ false → (59 == b) ≡ false
+    → separator_length l (b ∷ text) ≡ None
 unfolding separator_length
 begins_none true b text space slash semicolon = rw (space, slash, semicolon) refl
 begins_none false b text space slash semicolon = rw (space, slash) refl
@@ -55,17 +57,21 @@ word_apart : (bs : List ℕ) → is_word_text bs ≡ true → (l : Bool) (rest :
 word_apart [] text l rest = absurd (false≢true text)
 word_apart (b ∷ bs) text l rest = letter_begins_none l b (bs ++ rest) (and_parts (is_letter b) (list_all is_word_byte bs) text).0
 
-word_there : (at : ℕ) (bs rest : List ℕ) → prefix_len is_word_byte (bs ++ rest) ≡ length bs → word_at at (bs ++ rest) ≡ word_token bs (place at (length bs))
+word_there : (at : ℕ) (bs rest : List ℕ) → prefix_len is_word_byte (bs ++ rest) ≡ length bs
+    → word_at at (bs ++ rest) ≡ word_token bs (place at (length bs))
 unfolding word_at
 word_there at bs rest run =
-    ap (λ n. word_token (take n (bs ++ rest)) (place at n)) run ∙ ap (λ word. word_token word (place at (length bs))) (take-append_seam bs rest)
+    ap (λ n. word_token (take n (bs ++ rest)) (place at n)) run
+    ∙ ap (λ word. word_token word (place at (length bs))) (take-append_seam bs rest)
 
-word_stands : (bs : List ℕ) → is_word_text bs ≡ true → (at : ℕ) (rest : List ℕ) → Ends word_end rest → token_of_text at (bs ++ rest) ≡ Some (word_token bs (place at (length bs)))
+word_stands : (bs : List ℕ) → is_word_text bs ≡ true → (at : ℕ) (rest : List ℕ) → Ends word_end rest
+    → token_of_text at (bs ++ rest) ≡ Some (word_token bs (place at (length bs)))
 word_stands [] text at rest ends = absurd (false≢true text)
 word_stands (b ∷ bs) text at rest ends =
     let p = and_parts (is_letter b) (list_all is_word_byte bs) text in
     let all : list_all is_word_byte (b ∷ bs) ≡ true = and_from (is_word_byte b) (list_all is_word_byte bs) (letter_is_word b p.0) p.1 in
-    word_begins at b (bs ++ rest) p.0 ∙ ap Some (word_there at (b ∷ bs) rest (run_over is_word_byte (b ∷ bs) rest all (word_run_ends rest ends)))
+    word_begins at b (bs ++ rest) p.0 ∙ ap Some
+    (word_there at (b ∷ bs) rest (run_over is_word_byte (b ∷ bs) rest all (word_run_ends rest ends)))
 
 -- a word that no byte of a word follows is the token of this word
 pub word_prints : {A : Type 0} {N : A → List Token → Type 0} {Is : A → Type 0} (source bs : List ℕ) (value : ℕ → A) → is_word_text bs ≡ true
@@ -78,7 +84,8 @@ word_prints source bs value text spells holds =
 
 -- ---- identifiers
 
-none_beside : {X : Type 0} (word : List ℕ) (table : List (List ℕ × X)) → list_any (λ w. bytes_eq w word) (map (λ (row : List ℕ × X). row.0) table) ≡ false → beside word table ≡ None
+none_beside : {X : Type 0} (word : List ℕ) (table : List (List ℕ × X))
+    → list_any (λ w. bytes_eq w word) (map (λ (row : List ℕ × X). row.0) table) ≡ false → beside word table ≡ None
 none_beside word [] h = refl
 none_beside {X} word (row ∷ table) h = by (bytes_eq row.0 word) (none_beside word table) h where
   by : (t : Bool) → (list_any (λ w. bytes_eq w word) (map (λ (row : List ℕ × X). row.0) table) ≡ false → beside word table ≡ None)
@@ -98,13 +105,15 @@ free_word word h =
     let types = map (λ (row : List ℕ × TypeWord). row.0) type_words in
     let keywords = map (λ (row : List ℕ × Keyword). row.0) keyword_table in
     let apart = or_parts (list_any (λ w. bytes_eq w word) reserved_words) (is_block_word word) h in
-    let both : (list_any (λ w. bytes_eq w word) types || list_any (λ w. bytes_eq w word) keywords) ≡ false = sym (list_any-append (λ w. bytes_eq w word) types keywords) ∙ apart.0 in
+    let both : (list_any (λ w. bytes_eq w word) types || list_any (λ w. bytes_eq w word) keywords) ≡ false =
+    sym (list_any-append (λ w. bytes_eq w word) types keywords) ∙ apart.0 in
     let each = or_parts (list_any (λ w. bytes_eq w word) types) (list_any (λ w. bytes_eq w word) keywords) both in
     record { no_type = none_beside word type_words each.0; no_keyword = none_beside word keyword_table each.1; no_block = apart.1 }
 
 plain_means : (word : List ℕ) (span : Span) → is_block_word word ≡ false → identifier (plain_word word span) ≡ Some span
 plain_means word span h = by (is_block_word word) (bytes_eq word (codes "ssa")) h where
-  by : (b s : Bool) → b ≡ false → identifier (cond b (tokens.BlockWord span) (cond s (tokens.Ssa span) (tokens.Identifier span))) ≡ Some span
+  by : (b s : Bool) → b ≡ false → identifier
+      (cond b (tokens.BlockWord span) (cond s (tokens.Ssa span) (tokens.Identifier span))) ≡ Some span
   by true s h = absurd (false≢true (sym h))
   by false true h = refl
   by false false h = refl

@@ -14,7 +14,7 @@ use Rattle.gim_ast.specs.declared.function.End.{End}
 use Rattle.gim_ast.specs.Functions.{operands_of, operands_of_stmt, operands_of_end, assigned, targets_of}
 use Rattle.gim_ast.specs.WellFormed.{numbers_of, phi_blocks}
 use Rattle.gim_text.proofs.OccurrenceLemmas.{filter_of_map, filter_of_flat, each_says, none_says}
-use Rattle.gim_making.proofs.Membership.{Has, has_said, from_said}
+use Rattle.gim_text.proofs.Membership.{Has, has_said, from_said}
 
 pub data Part : Type 0 where
   parameter : Decl → Part
@@ -37,7 +37,9 @@ abbrev pub parts_of_end : End → List Part
 parts_of_end end = map reads (operands_of_end end) ++ map jump (targets_of end)
 
 abbrev pub parts_of_block : Block → List Part
-parts_of_block block = (head block.number ∷ (flat_map parts_of_phi block.phis ++ flat_map parts_of_stmt block.stmts)) ++ parts_of_end block.end
+parts_of_block block =
+    (head block.number ∷ (flat_map parts_of_phi block.phis ++ flat_map parts_of_stmt block.stmts))
+    ++ parts_of_end block.end
 
 abbrev pub parts_of : Function → List Part
 parts_of f = (map parameter f.params ++ map local f.decls) ++ flat_map parts_of_block f.blocks
@@ -119,7 +121,8 @@ module _ (f : Function) where
   part_is (assigns x) there = subst (λ l. Has l x) names_are (has_said a_name (parts_of f) (assigns x) x there refl)
   part_is (reads a) there = subst (λ l. Has l a) operands_are (has_said an_operand (parts_of f) (reads a) a there refl)
 
-  is_there : {X : Type 0} (picks : Part → Option X) (v : X → Part) → ((part : Part) (x : X) → picks part ≡ Some x → part ≡ v x) → (xs : List X)
+  is_there : {X : Type 0} (picks : Part → Option X) (v : X → Part)
+      → ((part : Part) (x : X) → picks part ≡ Some x → part ≡ v x) → (xs : List X)
       → filter_map picks (parts_of f) ≡ xs → (x : X) → Has xs x → Has (parts_of f) (v x)
   is_there picks v only xs are x there =
       let part = from_said picks (parts_of f) x (subst (λ l. Has l x) (sym are) there) in

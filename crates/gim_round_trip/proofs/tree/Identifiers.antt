@@ -1,5 +1,6 @@
 -- The text of a name is an identifier, since no reserved word ends in an underscore and a number.
-use Rattle.std.proofs.Common.{◌≡◌, ◌⊎◌, ℕ, ◌<◌, ◌^◌, Bool, true, false, Option, Some, None, List, [], ◌∷◌, ◌++◌, map, refl, sym, ap, ◌∙◌, inl, inr, arith}
+use Rattle.std.proofs.Common.{◌≡◌, ◌⊎◌, ℕ, ◌<◌, ◌^◌, Bool, true, false, Option, Some, None}
+use Rattle.std.proofs.Common.{List, [], ◌∷◌, ◌++◌, map, refl, sym, ap, ◌∙◌, inl, inr, arith}
 use Rattle.std.specs.Prelude.{◌==◌, ◌&&◌, not, is_some}
 use Rattle.std.specs.List.{list_all, list_any}
 use Rattle.std.specs.Fmt.{decimal}
@@ -17,10 +18,10 @@ use Rattle.lexing.specs.Numbers.{is_number_text}
 use Rattle.gim_printer.specs.Printing.{assigned_text}
 use Rattle.gim_ast.specs.WellFormed.{IsWellFormed, same_text, ident_of, declares_as, base_holds}
 use Rattle.lexing.proofs.NumberLemmas.{decimal_is_number_text, number_text_is_digits, number_is_word}
+use Rattle.gim_text.proofs.SameTexts.{same_text_is}
 use Rattle.gim_text.specs.Texts.{name_parts}
 use Rattle.gim_text.proofs.NameLemmas.{no_parts_at}
-use Rattle.gim_making.proofs.Membership.{Has, has_map, has_left, has_right, all_has, none_from_has}
-use Rattle.gim_making.proofs.PartLemmas.{same_text_is}
+use Rattle.gim_text.proofs.Membership.{Has, has_map, has_left, has_right, all_has, none_from_has}
 use Rattle.gim_round_trip.specs.ReadBack.{IsWithinLimits}
 use Rattle.gim_round_trip.proofs.tree.Rows.{name_facts, HasBase, bare, of_param, of_local, base_of_row, declared_as}
 
@@ -65,7 +66,8 @@ named_is_free text base ds parts =
 IsBase : List ℕ → Type 0
 IsBase base = (base ≡ []) ⊎ (is_word_text base ≡ true)
 
-versioned : (base ds : List ℕ) → list_all is_word_byte ds ≡ true → list_all is_word_byte base ≡ true → list_all is_word_byte (base ++ 95 ∷ ds) ≡ true
+versioned : (base ds : List ℕ) → list_all is_word_byte ds ≡ true → list_all is_word_byte base ≡ true
+    → list_all is_word_byte (base ++ 95 ∷ ds) ≡ true
 versioned base ds digits h = list_all-append is_word_byte base (95 ∷ ds)
     ∙ and_from (list_all is_word_byte base) (list_all is_word_byte (95 ∷ ds)) h digits
 
@@ -97,7 +99,8 @@ unfolding IsBase
 base_is_word f well row holds = by (base_of_row f row holds) where
   by : HasBase f row → (row.base ≡ []) ⊎ (is_word_text row.base ≡ true)
   by (bare is plain declared) = inl is
-  by (of_param b base is declared) = inr (ap is_word_text is ∙ base_declared f (b ∷ base) row.ty f.params well (has_left f.params f.decls) declared)
+  by (of_param b base is declared) =
+      inr (ap is_word_text is ∙ base_declared f (b ∷ base) row.ty f.params well (has_left f.params f.decls) declared)
   by (of_local b base is plain declared) = inr (ap is_word_text is
       ∙ base_declared f (b ∷ base) row.ty f.decls well (has_right f.params f.decls) declared)
 

@@ -17,16 +17,18 @@ use Rattle.gim_ast.specs.Identifiers.{anonymous}
 use Rattle.gim_printer.specs.Printing.{assigned_text}
 use Rattle.gim_ast.specs.WellFormed.{IsWellFormed, same_text, all_distinct, ident_of, declares_as, base_holds}
 use Rattle.pm_places.specs.declared.span.Span.{Span}
+use Rattle.gim_text.proofs.SameTexts.{same_text_itself, same_text_is}
 use Rattle.gim_text.specs.declared.tree.DeclText.{DeclText}
 use Rattle.gim_text.specs.declared.tree.FunctionText.{FunctionText}
 use Rattle.gim_text.specs.declared.tree.OperandText.{OperandText}
 use Rattle.gim_text.specs.declared.tree.OperandText.TheVariants.{Name, Default, Literal}
 use Rattle.gim_text.specs.Texts.{name_parts}
 use Rattle.pm_places.specs.Spans.{text_of}
-use Rattle.gim_making.specs.Declarations.{declarations_of, declared_type, type_by_base, type_by_parts, type_of_name, version_by_parts, version_of_name}
-use Rattle.gim_making.specs.Trees.{no_word, operand_of}
-use Rattle.gim_making.proofs.Membership.{Has, has_map}
-use Rattle.gim_making.proofs.PartLemmas.{text_itself, same_text_is}
+use Rattle.gim_typing.specs.Operands.{no_word, operand_of}
+use Rattle.gim_typing.specs.Declarations.{declarations_of, declared_type, type_by_base}
+use Rattle.gim_typing.specs.Declarations.{type_by_parts, type_of_name, version_by_parts}
+use Rattle.gim_typing.specs.Declarations.{version_of_name}
+use Rattle.gim_text.proofs.Membership.{Has, has_map}
 use Rattle.gim_round_trip.proofs.tree.DistinctTexts.{front_distinct, rest_distinct, not_again, apart}
 use Rattle.gim_round_trip.proofs.tree.Rows.{name_facts, HasBase, bare, of_param, of_local, base_of_row, declared_as}
 use Rattle.gim_round_trip.proofs.tree.SmallNumbers.{number_of_decimal}
@@ -47,15 +49,19 @@ type_declared source trees [] written distinct decl h = absurd h
 type_declared source [] (d ∷ decls) written distinct decl h = absurd written
 type_declared source (tree ∷ trees) (d ∷ decls) written distinct decl (inl e) =
     let here : decl.ident ≡ text_of source tree.ident = sym (ap ident_of e) ∙ sym written.0.0 in
-    let same : same_text decl.ident (text_of source tree.ident) ≡ true = ap (same_text decl.ident) (sym here) ∙ text_itself decl.ident in
+    let same : same_text decl.ident (text_of source tree.ident) ≡ true =
+    ap (same_text decl.ident) (sym here) ∙ same_text_itself decl.ident in
     ap (λ b. cond b (Some tree.ty) (declared_type source decl.ident trees)) same ∙ ap Some (written.0.1 ∙ ap (λ (x : Decl). x.ty) e)
 type_declared source (tree ∷ trees) (d ∷ decls) written distinct decl (inr there) =
     let other : same_text decl.ident (text_of source tree.ident) ≡ false =
     false_from_ne_true (same_text decl.ident (text_of source tree.ident)) (λ same.
     let here : decl.ident ≡ d.ident = same_text_is decl.ident (text_of source tree.ident) same ∙ written.0.0 in
     not_again d.ident (map ident_of decls) distinct (subst (Has (map ident_of decls)) here (has_map ident_of decls decl there))) in
-    let later = (and_parts (not (list_any (same_text d.ident) (map ident_of decls))) (all_distinct same_text (map ident_of decls)) distinct).1 in
-    ap (λ b. cond b (Some tree.ty) (declared_type source decl.ident trees)) other ∙ type_declared source trees decls written.1 later decl there
+    let later =
+    (and_parts (not (list_any (same_text d.ident) (map ident_of decls))) (all_distinct same_text (map ident_of decls))
+    distinct).1 in
+    ap (λ b. cond b (Some tree.ty) (declared_type source decl.ident trees)) other
+    ∙ type_declared source trees decls written.1 later decl there
 
 -- another identifier has none
 none_declared : (source ident : List ℕ) (trees : List DeclText) (decls : List Decl) → AllZip (WritesDecl source) trees decls
@@ -87,7 +93,8 @@ module _ (source : List ℕ) (tree : FunctionText) (f : Function) (w : WritesWel
   local_type ident t h =
       let d = declared_as ident t f.decls h in
       let distinct = rest_distinct (map ident_of f.params) (map ident_of f.decls) (idents_distinct f w.well) in
-      ap (λ i. declared_type source i tree.decls) (sym d.2) ∙ type_declared source tree.decls f.decls w.writes.decls distinct d.0 d.1 ∙ ap Some d.3
+      ap (λ i. declared_type source i tree.decls) (sym d.2)
+      ∙ type_declared source tree.decls f.decls w.writes.decls distinct d.0 d.1 ∙ ap Some d.3
 
   -- a local is no parameter
   no_param_type : (ident : List ℕ) (t : Ty) → declares_as ident t f.decls ≡ true → declared_type source ident tree.params ≡ None

@@ -19,7 +19,8 @@ use Rattle.gim_ast.specs.Functions.{operands_of_rhs}
 use Rattle.gim_printer.specs.Printing.{assigned_text}
 use Rattle.gim_ast.specs.Readable.{is_initial}
 use Rattle.gim_text.specs.declared.occurrence.Occurrence.{Occurrence}
-use Rattle.gim_text.specs.declared.occurrence.Occurrence.TheVariants.{Parameter, Local, Block as BlockAt, Jump, Assigned, Used, Default, Constant}
+use Rattle.gim_text.specs.declared.occurrence.Occurrence.TheVariants.{Parameter, Local, Block as BlockAt, Jump}
+use Rattle.gim_text.specs.declared.occurrence.Occurrence.TheVariants.{Assigned, Used, Default, Constant}
 use Rattle.gim_text.specs.declared.tree.FunctionText.{FunctionText}
 use Rattle.gim_text.specs.declared.tree.BlockText.{BlockText}
 use Rattle.gim_text.specs.declared.tree.ItemText.{ItemText}
@@ -32,13 +33,18 @@ use Rattle.gim_text.specs.declared.tree.OperandText.TheVariants as texts
 use Rattle.gim_text.specs.declared.tree.EndText.{EndText}
 use Rattle.gim_text.specs.declared.tree.EndText.TheVariants.{Goto, If, Return}
 use Rattle.gim_text.specs.Literals.{literal_word}
-use Rattle.gim_text.specs.Occurrences.{occurrence_of_parameter, occurrence_of_local, occurrence_of_operand, occurrences_of_argument, occurrences_of_right, occurrences_of_item, occurrences_of_end, occurrences_of_block, occurrences_of}
+use Rattle.gim_text.specs.Occurrences.{occurrence_of_parameter, occurrence_of_local, occurrence_of_operand}
+use Rattle.gim_text.specs.Occurrences.{occurrences_of_argument, occurrences_of_right, occurrences_of_item}
+use Rattle.gim_text.specs.Occurrences.{occurrences_of_end, occurrences_of_block, occurrences_of}
 use Rattle.gim_text.specs.Texts.{block_digits}
 use Rattle.pm_places.specs.Spans.{text_of}
-use Rattle.gim_making.proofs.Membership.{map-append, map_of_flat}
-use Rattle.gim_round_trip.proofs.tree.FunctionParts.{Part, parameter, local, head, jump, assigns, reads, parts_of_arg, parts_of_phi, parts_of_stmt, parts_of_end, parts_of_block, parts_of}
+use Rattle.gim_text.proofs.Membership.{map-append, map_of_flat}
+use Rattle.gim_round_trip.proofs.tree.FunctionParts.{Part, parameter, local, head, jump, assigns, reads, parts_of_arg}
+use Rattle.gim_round_trip.proofs.tree.FunctionParts.{parts_of_phi, parts_of_stmt, parts_of_end, parts_of_block}
+use Rattle.gim_round_trip.proofs.tree.FunctionParts.{parts_of}
 use Rattle.gim_round_trip.proofs.tree.PairedLists.{same_images, same_flat_images}
-use Rattle.gim_round_trip.proofs.tree.Writes.{Writes, WritesOperand, WritesForm, WritesArg, WritesPhi, WritesStmt, WritesEnd, WritesBlock, WritesDecl}
+use Rattle.gim_round_trip.proofs.tree.Writes.{Writes, WritesOperand, WritesForm, WritesArg, WritesPhi}
+use Rattle.gim_round_trip.proofs.tree.Writes.{WritesStmt, WritesEnd, WritesBlock, WritesDecl}
 
 -- ---- what a part and an occurrence say
 
@@ -94,7 +100,8 @@ module _ (source : List ℕ) (f : Function) where
 
   each_says : {X Y : Type 0} (R : X → Y → Type 0) (v : X → Occurrence) (u : Y → Part) (xs : List X) (ys : List Y)
       → ((x : X) (y : Y) → R x y → said source (v x) ≡ told f (u y)) → AllZip R xs ys → Say (map v xs) (map u ys)
-  each_says R v u xs ys each written = map-map (said source) v xs ∙ same_images R (λ x. said source (v x)) (λ y. told f (u y)) xs ys each written
+  each_says R v u xs ys each written =
+      map-map (said source) v xs ∙ same_images R (λ x. said source (v x)) (λ y. told f (u y)) xs ys each written
       ∙ sym (map-map (told f) u ys)
 
   operand_says : (a : OperandText) (x : Operand) → WritesOperand source f a x → said source (occurrence_of_operand a) ≡ told f (reads x)
@@ -122,7 +129,8 @@ module _ (source : List ℕ) (f : Function) where
 
   stmt_says : (item : ItemText) (stmt : Stmt) → WritesStmt source f item stmt → Say (occurrences_of_item item) (parts_of_stmt stmt)
   stmt_says (items.Phi name args) stmt w = absurd w
-  stmt_says (items.Stmt name right) stmt w = rw (w.0) (ap (λ l. an_assigned (assigned_text f stmt.name) ∷ l) (form_says _ right.form stmt.rhs w.1))
+  stmt_says (items.Stmt name right) stmt w =
+      rw (w.0) (ap (λ l. an_assigned (assigned_text f stmt.name) ∷ l) (form_says _ right.form stmt.rhs w.1))
 
   end_says : (text : Option EndText) (end : End) → WritesEnd source f text end → Say (occurrences_of_end text) (parts_of_end end)
   end_says (Some (Goto to)) (ends.Goto n) w = rw w refl
@@ -134,9 +142,11 @@ module _ (source : List ℕ) (f : Function) where
   block_says text block w =
       let phis = all_say (WritesPhi source f) occurrences_of_item parts_of_phi w.phi_items block.phis phi_says w.phis in
       let stmts = all_say (WritesStmt source f) occurrences_of_item parts_of_stmt w.stmt_items block.stmts stmt_says w.stmts in
-      let in_order : flat_map occurrences_of_item text.items ≡ flat_map occurrences_of_item w.phi_items ++ flat_map occurrences_of_item w.stmt_items =
+      let in_order : flat_map occurrences_of_item text.items ≡ flat_map occurrences_of_item w.phi_items
+      ++ flat_map occurrences_of_item w.stmt_items =
       ap (flat_map occurrences_of_item) w.in_order ∙ flat_map-append occurrences_of_item w.phi_items w.stmt_items in
-      let lines : Say (flat_map occurrences_of_item text.items) (flat_map parts_of_phi block.phis ++ flat_map parts_of_stmt block.stmts) = ap
+      let lines : Say (flat_map occurrences_of_item text.items)
+      (flat_map parts_of_phi block.phis ++ flat_map parts_of_stmt block.stmts) = ap
       (map (said source)) in_order ∙ both_say _ _ _ _ phis stmts in
       both_say (BlockAt text.number ∷ flat_map occurrences_of_item text.items) (occurrences_of_end text.end)
       (head block.number ∷ (flat_map parts_of_phi block.phis ++ flat_map parts_of_stmt block.stmts)) (parts_of_end block.end)
@@ -144,8 +154,11 @@ module _ (source : List ℕ) (f : Function) where
 
   pub occurrences_say : (tree : FunctionText) → Writes source tree f → Say (occurrences_of tree) (parts_of f)
   occurrences_say tree w =
-      let params = each_says (WritesDecl source) occurrence_of_parameter parameter tree.params f.params (λ decl d h. ap a_parameter h.0) w.params in
+      let params =
+      each_says (WritesDecl source) occurrence_of_parameter parameter tree.params f.params
+      (λ decl d h. ap a_parameter h.0) w.params in
       let locals = each_says (WritesDecl source) occurrence_of_local local tree.decls f.decls (λ decl d h. ap a_local h.0) w.decls in
       both_say (map occurrence_of_parameter tree.params ++ map occurrence_of_local tree.decls) (flat_map occurrences_of_block tree.blocks)
       (map parameter f.params ++ map local f.decls) (flat_map parts_of_block f.blocks)
-      (both_say _ _ _ _ params locals) (all_say (WritesBlock source f) occurrences_of_block parts_of_block tree.blocks f.blocks block_says w.blocks)
+      (both_say _ _ _ _ params locals) (all_say (WritesBlock source f) occurrences_of_block parts_of_block tree.blocks
+      f.blocks block_says w.blocks)

@@ -16,12 +16,14 @@ use Rattle.gim_text.specs.declared.tree.FunctionText.{FunctionText}
 use Rattle.gim_text.specs.Occurrences.{occurrences_of}
 use Rattle.gim_text.specs.Texts.{name_parts}
 use Rattle.gim_text.proofs.OccurrenceLemmas.{filter_of_map}
-use Rattle.gim_names.specs.Kept.{ident_text, number_text}
-use Rattle.gim_names.specs.Parts.{version_in, param_text, local_text, declared_text, block_number, assigned_text as text_assigned, assigned_version}
-use Rattle.gim_names.proofs.Saying.{declares}
-use Rattle.gim_making.proofs.Membership.{Has, map-append}
+use Rattle.gim_names.specs.KeepsNames.{ident_text, number_text}
+use Rattle.gim_names.specs.OccurrenceTexts.{version_in, param_text, local_text, declared_text}
+use Rattle.gim_names.specs.OccurrenceTexts.{block_number, assigned_text as text_assigned}
+use Rattle.gim_names.specs.OccurrenceTexts.{assigned_version}
+use Rattle.gim_names.proofs.DeclaredIdentifiers.{declares}
+use Rattle.gim_text.proofs.Membership.{Has, map-append}
 use Rattle.gim_round_trip.proofs.tree.FunctionParts.{Part, assigns, parts_of, a_name, part_is, names_are}
-use Rattle.gim_round_trip.proofs.tree.Filters.{kept_of_images, images_kept}
+use Rattle.gim_making.proofs.Filters.{kept_of_images, images_kept}
 use Rattle.gim_round_trip.proofs.tree.Occurrences.{Saying, an_assigned, told, said, occurrences_say}
 use Rattle.gim_round_trip.proofs.tree.PairedLists.{same_images}
 use Rattle.gim_round_trip.proofs.tree.Rows.{name_facts}
@@ -46,7 +48,8 @@ module _ (source : List ℕ) (tree : FunctionText) (f : Function) (w : WritesWel
 
   pub declared_said : filter_map (declared_text source) (occurrences_of tree) ≡ map ident_of (f.params ++ f.decls)
   declared_said =
-      (declares source tree).declared ∙ ap (λ l. l ++ map (ident_text source) tree.decls) (idents_written tree.params f.params w.writes.params)
+      (declares source tree).declared ∙ ap (λ l. l ++ map (ident_text source) tree.decls)
+      (idents_written tree.params f.params w.writes.params)
       ∙ ap (λ l. map ident_of f.params ++ l) (idents_written tree.decls f.decls w.writes.decls) ∙ sym (map-append ident_of f.params f.decls)
 
   pub numbers_said : filter_map (block_number source) (occurrences_of tree) ≡ map decimal (numbers_of f)
@@ -59,11 +62,13 @@ module _ (source : List ℕ) (tree : FunctionText) (f : Function) (w : WritesWel
   -- what is read of each name that is assigned
   names_said : (says : Occurrence → Option (List ℕ)) (reading : List ℕ → Option (List ℕ)) (g : ℕ → List ℕ)
       → ((o : Occurrence) → says o ≡ of_assigned reading (said source o))
-      → ((x : ℕ) → Has (assigned f) x → reading (assigned_text f x) ≡ Some (g x)) → filter_map says (occurrences_of tree) ≡ map g (assigned f)
+      → ((x : ℕ) → Has (assigned f) x → reading (assigned_text f x) ≡ Some (g x))
+      → filter_map says (occurrences_of tree) ≡ map g (assigned f)
   names_said says reading g same each =
       kept_of_images says (of_assigned reading) (said source) same (occurrences_of tree)
       ∙ ap (filter_map (of_assigned reading)) (occurrences_say source f tree w.writes)
-      ∙ filter_of_map (of_assigned reading) (told f) (parts_of f) ∙ images_kept (λ part. of_assigned reading (told f part)) a_name g (parts_of f) by
+      ∙ filter_of_map (of_assigned reading) (told f) (parts_of f)
+      ∙ images_kept (λ part. of_assigned reading (told f part)) a_name g (parts_of f) by
       ∙ ap (map g) (names_are f) where
         by : (part : Part) → Has (parts_of f) part → of_assigned reading (told f part) ≡ option_map g (a_name part)
         by (assigns x) there = each x (part_is f (assigns x) there)

@@ -17,6 +17,7 @@ use Rattle.gim_ast.specs.declared.function.End.TheVariants as ends
 use Rattle.gim_ast.specs.Functions.{operands_of, operands_of_rhs, operands_of_end, targets_of}
 use Rattle.gim_printer.specs.Printing.{type_of_name}
 use Rattle.pm_places.specs.declared.span.Span.{Span}
+use Rattle.gim_text.specs.declared.limits.TheConstants.{NUMBER_LIMIT}
 use Rattle.gim_text.specs.declared.tree.ArgText.{ArgText}
 use Rattle.gim_text.specs.declared.tree.BlockText.{BlockText}
 use Rattle.gim_text.specs.declared.tree.DeclText.{DeclText}
@@ -28,17 +29,20 @@ use Rattle.gim_text.specs.declared.tree.ItemText.TheVariants as items
 use Rattle.gim_text.specs.declared.tree.RightForm.{RightForm}
 use Rattle.gim_text.specs.declared.tree.RightForm.TheVariants.{Copy, Unary, Cast, Binary, Choice}
 use Rattle.pm_places.specs.Spans.{text_of}
-use Rattle.gim_making.specs.Declarations.{Declarations, declarations_of, number_of}
+use Rattle.gim_typing.specs.Operands.{rhs_of}
+use Rattle.gim_typing.specs.Declarations.{Declarations, declarations_of, number_of}
 use Rattle.gim_making.specs.Standing.{made}
-use Rattle.gim_making.specs.Trees.{rhs_of, block_number, arg_of, phi_of, stmt_of, end_of, block_of, decl_of}
-use Rattle.gim_making.proofs.Membership.{Has, has_map}
+use Rattle.gim_making.specs.Trees.{block_number, arg_of, phi_of, stmt_of, end_of, block_of, decl_of}
+use Rattle.gim_text.proofs.Membership.{Has, has_map}
 use Rattle.gim_round_trip.proofs.tree.SmallNumbers.{AreSmallNumbers, number_of_decimal, number_small, targets_small, phi_blocks_small}
 use Rattle.gim_round_trip.proofs.tree.WellFormedParts.{phi_operand, stmt_operand, end_operand, phi_row, stmt_row}
 use Rattle.gim_round_trip.proofs.tree.KnownNames.{known_name, operand_is}
 use Rattle.gim_round_trip.proofs.tree.PairedLists.{map_is, flat_map_is, nothing_is}
-use Rattle.gim_round_trip.proofs.tree.Writes.{WritesWell, WritesForm, WritesArg, WritesPhi, WritesStmt, WritesEnd, WritesBlock, WritesDecl, NamesBlock}
+use Rattle.gim_round_trip.proofs.tree.Writes.{WritesWell, WritesForm, WritesArg, WritesPhi}
+use Rattle.gim_round_trip.proofs.tree.Writes.{WritesStmt, WritesEnd, WritesBlock, WritesDecl}
+use Rattle.gim_round_trip.proofs.tree.Writes.{NamesBlock}
 
-block_number_is : (source : List ℕ) (at : Span) (n : ℕ) → NamesBlock source at n → n < 1000000000 → block_number source at ≡ n
+block_number_is : (source : List ℕ) (at : Span) (n : ℕ) → NamesBlock source at n → n < NUMBER_LIMIT → block_number source at ≡ n
 block_number_is source at n names small = ap number_of names ∙ number_of_decimal n small
 
 decl_is : (source : List ℕ) (text : DeclText) (decl : Decl) → WritesDecl source text decl → decl_of source text ≡ decl
@@ -52,8 +56,10 @@ module _ (source : List ℕ) (tree : FunctionText) (f : Function) (w : WritesWel
   pub rhs_is : (t : Ty) (form : RightForm) (rhs : Rhs) → WritesForm source f t form rhs
       → ((x : Operand) → Has (operands_of_rhs rhs) x → Has (operands_of f) x) → rhs_of known form ≡ rhs
   rhs_is t (Copy a) (sides.Copy x) written inside = rw (operand_is source tree f w a x written (inside x (inl refl))) refl
-  rhs_is t (Unary code a) (sides.Op op (x ∷ [])) written inside = rw (written.0, operand_is source tree f w a x written.1 (inside x (inl refl))) refl
-  rhs_is t (Cast to a) (sides.Op op (x ∷ [])) written inside = rw (written.0, operand_is source tree f w a x written.2 (inside x (inl refl))) refl
+  rhs_is t (Unary code a) (sides.Op op (x ∷ [])) written inside =
+      rw (written.0, operand_is source tree f w a x written.1 (inside x (inl refl))) refl
+  rhs_is t (Cast to a) (sides.Op op (x ∷ [])) written inside =
+      rw (written.0, operand_is source tree f w a x written.2 (inside x (inl refl))) refl
   rhs_is t (Binary code a b) (sides.Op op (x ∷ y ∷ [])) written inside =
       rw (
         written.0,
@@ -69,7 +75,8 @@ module _ (source : List ℕ) (tree : FunctionText) (f : Function) (w : WritesWel
       ) refl
   rhs_is t form rhs written inside = absurd written
 
-  end_is : (text : Option EndText) (end : End) → WritesEnd source f text end → ((x : Operand) → Has (operands_of_end end) x → Has (operands_of f) x)
+  end_is : (text : Option EndText) (end : End) → WritesEnd source f text end
+      → ((x : Operand) → Has (operands_of_end end) x → Has (operands_of f) x)
       → AreSmallNumbers (targets_of end) → end_of known text ≡ end
   end_is (Some (Goto to)) (ends.Goto n) written inside small = rw (block_number_is source to n written (small n (inl refl))) refl
   end_is (Some (If code a b yes_at no_at)) (ends.If op x y yes_to no_to) written inside small =
@@ -84,7 +91,8 @@ module _ (source : List ℕ) (tree : FunctionText) (f : Function) (w : WritesWel
   end_is text end written inside small = absurd written
 
   module _ (block : Block) (there : Has f.blocks block) where
-    arg_is : (phi : Phi) → Has block.phis phi → (arg : ArgText) (x : ℕ × Operand) → Has phi.args x → WritesArg source f arg x → arg_of known arg ≡ x
+    arg_is : (phi : Phi) → Has block.phis phi → (arg : ArgText) (x : ℕ × Operand) → Has phi.args x
+        → WritesArg source f arg x → arg_of known arg ≡ x
     arg_is phi here arg x among written =
         let small = phi_blocks_small f w.within w.well block there phi here x.0 (has_map (λ (a : ℕ × Operand). a.0) phi.args x among) in
         rw (
@@ -134,15 +142,23 @@ module _ (source : List ℕ) (tree : FunctionText) (f : Function) (w : WritesWel
         ∙ ap (λ l. l ++ flat_map (stmt_of known) written.stmt_items)
         (nothing_is (WritesPhi source f) (stmt_of known) written.phi_items block.phis written.phis no_stmt)
         ∙ flat_map_is (WritesStmt source f) (stmt_of known) written.stmt_items block.stmts written.stmts stmt_is in
-        rw (number, phis, stmts, end_is text.end block.end written.end (end_operand f block there) (targets_small f w.within w.well block there)) refl
+        rw (
+          number,
+          phis,
+          stmts,
+          end_is text.end block.end written.end (end_operand f block there)
+              (targets_small f w.within w.well block there),
+        ) refl
 
   pub function_is : f ≡ made source tree f.names
   unfolding made
   function_is =
-      let params : map (decl_of source) tree.params ≡ f.params = map_is (WritesDecl source) (decl_of source) tree.params f.params w.writes.params
+      let params : map (decl_of source) tree.params ≡ f.params =
+      map_is (WritesDecl source) (decl_of source) tree.params f.params w.writes.params
       (λ text decl there. decl_is source text decl) in
       let decls : map (decl_of source) tree.decls ≡ f.decls = map_is (WritesDecl source) (decl_of source) tree.decls f.decls w.writes.decls
       (λ text decl there. decl_is source text decl) in
-      let blocks : map (block_of known) tree.blocks ≡ f.blocks = map_is (WritesBlock source f) (block_of known) tree.blocks f.blocks w.writes.blocks
+      let blocks : map (block_of known) tree.blocks ≡ f.blocks =
+      map_is (WritesBlock source f) (block_of known) tree.blocks f.blocks w.writes.blocks
       (λ text block there. block_is block there text) in
       rw (w.writes.name, w.writes.result, params, decls, blocks) refl

@@ -11,11 +11,12 @@ use Rattle.pm_places.specs.declared.span.Span.{Span}
 use Rattle.gim_text.specs.declared.tree.FunctionText.{FunctionText}
 use Rattle.gim_text.specs.Occurrences.{occurrences_of, name_at}
 use Rattle.gim_making.specs.declared.places.NamePlace.{NamePlace}
-use Rattle.gim_making.specs.Declarations.{Declarations, declarations_of, type_of_name, number_of}
-use Rattle.gim_making.specs.Names.{AreNames, is_default, name_place, names_in, first_of, version_of, rows_by_parts, rows_of_place, named_rows}
-use Rattle.gim_making.proofs.Membership.{Has, has_flat, from_flat, has_said, from_said}
-use Rattle.gim_making.proofs.NameRowLemmas.{first_of_here, first_of_in, one_of_version}
-use Rattle.gim_making.proofs.RowLemmas.{first_of_has}
+use Rattle.gim_typing.specs.Declarations.{Declarations, declarations_of, type_of_name, number_of}
+use Rattle.gim_making.specs.Names.{AreNames, is_default, name_place, names_in, first_of}
+use Rattle.gim_making.specs.Names.{version_of, rows_by_parts, rows_of_place, named_rows}
+use Rattle.gim_text.proofs.Membership.{Has, has_flat, from_flat, has_said, from_said}
+use Rattle.gim_making.proofs.NameRows.{first_of_here, first_of_in, one_of_version}
+use Rattle.gim_making.proofs.RowTables.{first_of_has}
 use Rattle.gim_round_trip.proofs.tree.KnownNames.{known_name}
 use Rattle.gim_round_trip.proofs.tree.Rows.{of_names, row_found}
 use Rattle.gim_round_trip.proofs.tree.SmallNumbers.{number_of_decimal}
@@ -25,7 +26,8 @@ use Rattle.gim_round_trip.proofs.tree.Writes.{WritesWell}
 -- ---- rows that are the same
 
 -- a row that stands among some of these names is the first of its version there
-first_there : (names rows : List NameRow) → rises (map version_of names) ≡ true → ((row : NameRow) → Has rows row → Has names row) → (row : NameRow)
+first_there : (names rows : List NameRow) → rises (map version_of names) ≡ true
+    → ((row : NameRow) → Has rows row → Has names row) → (row : NameRow)
     → Has names row → Has rows row → first_of row.version rows ≡ Some row
 first_there names rows up among row named there = first_of_here rows row there
     (λ other has same. one_of_version names up other row (among other has) named same)
@@ -83,7 +85,8 @@ module _ (source : List ℕ) (tree : FunctionText) (f : Function) (w : WritesWel
         by o among place inside (Some at) e is =
             let name = name_of source tree f w o at (occurrence_is source tree f w o among) e in
             let same : place_at o at ≡ place = cc in
-            only name.0 (subst (λ l. Has l row) (ap (rows_of_place known) (sym same) ∙ place_rows o at name.0 name.1) inside) name.1.name.in_names
+            only name.0 (subst (λ l. Has l row) (ap (rows_of_place known) (sym same) ∙ place_rows o at name.0 name.1)
+            inside) name.1.name.in_names
 
   name_has_row : (row : NameRow) → Has f.names row → Has (named_rows source tree) row
   name_has_row row named =

@@ -13,9 +13,13 @@ use Rattle.gim_ast.specs.declared.function.Block.{Block}
 use Rattle.gim_ast.specs.declared.function.Phi.{Phi}
 use Rattle.gim_ast.specs.declared.function.Stmt.{Stmt}
 use Rattle.gim_ast.specs.declared.function.NameRow.{NameRow}
-use Rattle.gim_ast.specs.Functions.{operands_of, operands_of_block, operands_of_phi, operands_of_stmt, operands_of_end, assigned, assigned_in, phi_name, stmt_name, targets_of, row_of}
-use Rattle.gim_ast.specs.WellFormed.{IsWellFormed, all_distinct, operand_holds, block_fits, phi_fits, stmt_fits, rhs_fits, end_fits, numbers_of, is_among, entry_has_no_phi, is_empty, predecessors, phi_blocks, phi_holds, type_of}
-use Rattle.gim_making.proofs.Membership.{Has, all_has, has_left, has_right, has_either, has_map, from_map, has_flat, from_flat}
+use Rattle.gim_ast.specs.Functions.{operands_of, operands_of_block, operands_of_phi, operands_of_stmt}
+use Rattle.gim_ast.specs.Functions.{operands_of_end, assigned, assigned_in, phi_name, stmt_name, targets_of}
+use Rattle.gim_ast.specs.Functions.{row_of}
+use Rattle.gim_ast.specs.WellFormed.{IsWellFormed, all_distinct, operand_holds, block_fits, phi_fits, stmt_fits}
+use Rattle.gim_ast.specs.WellFormed.{rhs_fits, end_fits, numbers_of, is_among, entry_has_no_phi, is_empty, predecessors}
+use Rattle.gim_ast.specs.WellFormed.{phi_blocks, phi_holds, type_of}
+use Rattle.gim_text.proofs.Membership.{Has, all_has, has_left, has_right, has_either, has_map, from_map, has_flat, from_flat}
 
 -- ---- blocks
 
@@ -45,7 +49,8 @@ module _ (f : Function) (block : Block) (there : Has f.blocks block) where
   unfolding operands_of
   phi_operand phi here arg stands =
       has_flat operands_of_block f.blocks block arg.1 there
-      (has_left _ _ _ (has_left _ _ _ (has_flat operands_of_phi block.phis phi arg.1 here (has_map (λ (a : ℕ × Operand). a.1) phi.args arg stands))))
+      (has_left _ _ _ (has_left _ _ _ (has_flat operands_of_phi block.phis phi arg.1 here
+      (has_map (λ (a : ℕ × Operand). a.1) phi.args arg stands))))
 
   pub stmt_operand : (stmt : Stmt) → Has block.stmts stmt → (x : Operand) → Has (operands_of_stmt stmt) x → Has (operands_of f) x
   unfolding operands_of
@@ -75,20 +80,25 @@ module _ (f : Function) (block : Block) (there : Has f.blocks block) where
         record { distinct = first.0; only = first.1; each = each.1; some = not-true (is_empty phi.args) last.1 }
 
     pub phi_row : (phi : Phi) → Has block.phis phi
-        → (row : NameRow) × (row_of f phi.name ≡ Some row) × (list_all (λ (arg : ℕ × Operand). same_type (type_of arg.1) row.ty) phi.args ≡ true)
+        → (row : NameRow) × (row_of f phi.name ≡ Some row)
+        × (list_all (λ (arg : ℕ × Operand). same_type (type_of arg.1) row.ty) phi.args ≡ true)
     phi_row phi here = by (row_of f phi.name) refl (all_has (phi_fits f) block.phis (and_parts _ _ (and_parts _ _ fits).0).0 phi here) where
       by : (o : Option NameRow) → row_of f phi.name ≡ o
           → option_map_or (λ (row : NameRow). list_all (λ (arg : ℕ × Operand). same_type (type_of arg.1) row.ty) phi.args) o false ≡ true
-          → (row : NameRow) × (row_of f phi.name ≡ Some row) × (list_all (λ (arg : ℕ × Operand). same_type (type_of arg.1) row.ty) phi.args ≡ true)
+          → (row : NameRow) × (row_of f phi.name ≡ Some row)
+          × (list_all (λ (arg : ℕ × Operand). same_type (type_of arg.1) row.ty) phi.args ≡ true)
       by None found h = absurd (false≢true h)
       by (Some row) found h = (row, found, h)
 
-    pub stmt_row : (stmt : Stmt) → Has block.stmts stmt → (row : NameRow) × (row_of f stmt.name ≡ Some row) × (rhs_fits row.ty stmt.rhs ≡ true)
-    stmt_row stmt here = by (row_of f stmt.name) refl (all_has (stmt_fits f) block.stmts (and_parts _ _ (and_parts _ _ fits).0).1 stmt here) where
-      by : (o : Option NameRow) → row_of f stmt.name ≡ o → option_map_or (λ (row : NameRow). rhs_fits row.ty stmt.rhs) o false ≡ true
-          → (row : NameRow) × (row_of f stmt.name ≡ Some row) × (rhs_fits row.ty stmt.rhs ≡ true)
-      by None found h = absurd (false≢true h)
-      by (Some row) found h = (row, found, h)
+    pub stmt_row : (stmt : Stmt) → Has block.stmts stmt → (row : NameRow) × (row_of f stmt.name ≡ Some row)
+        × (rhs_fits row.ty stmt.rhs ≡ true)
+    stmt_row stmt here =
+        by (row_of f stmt.name) refl (all_has (stmt_fits f) block.stmts (and_parts _ _ (and_parts _ _ fits).0).1 stmt
+        here) where
+          by : (o : Option NameRow) → row_of f stmt.name ≡ o → option_map_or (λ (row : NameRow). rhs_fits row.ty stmt.rhs) o false ≡ true
+              → (row : NameRow) × (row_of f stmt.name ≡ Some row) × (rhs_fits row.ty stmt.rhs ≡ true)
+          by None found h = absurd (false≢true h)
+          by (Some row) found h = (row, found, h)
 
 -- ---- operands and assigned names
 

@@ -1,5 +1,6 @@
 -- What occurs in a tree that writes a function, by the declarations, the blocks and the names of this function.
-use Rattle.std.proofs.Common.{◌≡◌, ℕ, ◌<◌, Bool, true, false, cond, Some, None, List, [], ◌∷◌, ◌++◌, map, refl, sym, ap, subst, ◌∙◌, arith, inl, inr}
+use Rattle.std.proofs.Common.{◌≡◌, ℕ, ◌<◌, Bool, true, false, cond, Some, None, List, []}
+use Rattle.std.proofs.Common.{◌∷◌, ◌++◌, map, refl, sym, ap, subst, ◌∙◌, arith, inl, inr}
 use Rattle.std.specs.Prelude.{◌==◌, ◌&&◌, ◌||◌, not}
 use Rattle.std.specs.Fmt.{decimal}
 use Rattle.std.proofs.lemmas.Bool.{and_parts, and_from, or_cases, eqb-true, eq-eqb, false≢true}
@@ -17,6 +18,8 @@ use Rattle.gim_ast.specs.Readable.{is_initial}
 use Rattle.gim_ast.specs.WellFormed.{same_text, ident_of, is_assigned, base_holds}
 use Rattle.lexing.proofs.NumberLemmas.{decimal_is_number_text}
 use Rattle.pm_places.specs.declared.span.Span.{Span}
+use Rattle.gim_text.proofs.SameTexts.{same_text_is}
+use Rattle.gim_text.specs.declared.limits.TheConstants.{NUMBER_LIMIT}
 use Rattle.gim_text.specs.declared.occurrence.Occurrence.{Occurrence}
 use Rattle.gim_text.specs.declared.occurrence.Occurrence.TheVariants.{Parameter, Local, Block, Jump, Assigned, Used, Default, Constant}
 use Rattle.gim_text.specs.declared.tree.FunctionText.{FunctionText}
@@ -25,11 +28,12 @@ use Rattle.gim_text.specs.Occurrences.{occurrences_of, name_at}
 use Rattle.gim_text.specs.Texts.{name_parts}
 use Rattle.pm_places.specs.Spans.{text_of}
 use Rattle.gim_making.specs.Names.{is_default}
-use Rattle.gim_making.proofs.Membership.{Has, has_map, from_map, any_has, any_from_has}
-use Rattle.gim_making.proofs.PartLemmas.{same_text_is}
-use Rattle.gim_round_trip.proofs.tree.FunctionParts.{Part, parameter, local, head, jump, assigns, reads, parts_of, PartIs, part_is, local_there, name_there, operand_there}
+use Rattle.gim_text.proofs.Membership.{Has, has_map, from_map, any_has, any_from_has}
+use Rattle.gim_round_trip.proofs.tree.FunctionParts.{Part, parameter, local, head, jump, assigns, reads, parts_of}
+use Rattle.gim_round_trip.proofs.tree.FunctionParts.{PartIs, part_is, local_there, name_there, operand_there}
 use Rattle.gim_round_trip.proofs.tree.Occurrences.{a_local, an_assigned, an_operand, a_name, told, said, occurrences_say}
-use Rattle.gim_round_trip.proofs.tree.Rows.{name_facts, row_found, assigned_is_not_initial, used_is_assigned, local_row, bare_row, declared_as}
+use Rattle.gim_round_trip.proofs.tree.Rows.{name_facts, row_found, assigned_is_not_initial}
+use Rattle.gim_round_trip.proofs.tree.Rows.{used_is_assigned, local_row, bare_row, declared_as}
 use Rattle.gim_round_trip.proofs.tree.SmallNumbers.{numbers_small, jumps_small}
 use Rattle.gim_round_trip.proofs.tree.WellFormedParts.{each_operand_holds, operand_row, assigned_row}
 use Rattle.gim_round_trip.proofs.tree.Writes.{WritesWell, NamesBlock}
@@ -37,7 +41,7 @@ use Rattle.gim_round_trip.proofs.tree.Writes.{WritesWell, NamesBlock}
 -- the name of this row stands at the place
 pub record IsNameAt (source : List ℕ) (f : Function) (at : Span) (row : NameRow) : Type 0 where
   pub in_names : Has f.names row
-  pub small : row.version < 1000000000
+  pub small : row.version < NUMBER_LIMIT
   pub text : text_of source at ≡ row.base ++ 95 ∷ decimal row.version
   pub named : text_of source at ≡ assigned_text f row.version
   pub parts : name_parts (text_of source at) ≡ Some (row.base, decimal row.version)
@@ -47,8 +51,8 @@ pub record IsNameAt (source : List ℕ) (f : Function) (at : Span) (row : NameRo
 abbrev pub OccurrenceIs : List ℕ → Function → Occurrence → Type 0
 OccurrenceIs source f (Parameter at) = Has (map ident_of f.params) (text_of source at)
 OccurrenceIs source f (Local at) = (decl : Decl) × Has f.decls decl × (text_of source at ≡ decl.ident)
-OccurrenceIs source f (Block at) = (n : ℕ) × (n < 1000000000) × (text_of source at ≡ decimal n)
-OccurrenceIs source f (Jump at) = (n : ℕ) × (n < 1000000000) × NamesBlock source at n
+OccurrenceIs source f (Block at) = (n : ℕ) × (n < NUMBER_LIMIT) × (text_of source at ≡ decimal n)
+OccurrenceIs source f (Jump at) = (n : ℕ) × (n < NUMBER_LIMIT) × NamesBlock source at n
 OccurrenceIs source f (Assigned at) = (row : NameRow) × IsNameAt source f at row × (row.initial ≡ false)
 OccurrenceIs source f (Used at) = (row : NameRow) × IsNameAt source f at row × (row.initial ≡ false) × (is_assigned f row.version ≡ true)
 OccurrenceIs source f (Default at) = (row : NameRow) × IsNameAt source f at row × (row.initial ≡ true)
@@ -90,7 +94,7 @@ module _ (source : List ℕ) (tree : FunctionText) (f : Function) (w : WritesWel
       let version : x ≡ row.version = sym facts.is_version in
       record {
         in_names = facts.in_names;
-        small = subst (λ v. v < 1000000000) version facts.small;
+        small = subst (λ v. v < NUMBER_LIMIT) version facts.small;
         text = text ∙ facts.text ∙ ap (λ v. row.base ++ 95 ∷ decimal v) version;
         named = text ∙ ap (assigned_text f) version;
         parts = ap name_parts text ∙ facts.parts ∙ ap (λ v. Some (row.base, decimal v)) version;
@@ -136,7 +140,8 @@ module _ (source : List ℕ) (tree : FunctionText) (f : Function) (w : WritesWel
       told_is o part.0 (part_is f part.0 part.1) part.2
 
   -- the name that stands where a name occurs
-  pub name_of : (o : Occurrence) (at : Span) → OccurrenceIs source f o → name_at source o ≡ Some at → (row : NameRow) × IsNameOf source f o at row
+  pub name_of : (o : Occurrence) (at : Span) → OccurrenceIs source f o → name_at source o ≡ Some at → (row : NameRow)
+      × IsNameOf source f o at row
   name_of (Local place) at is e =
       let bare = anonymous_at (is_anonymous (text_of source place)) place at e in
       let row = local_row f w.well is.0 is.1 (ap is_anonymous (sym is.2) ∙ bare.0) in
@@ -163,7 +168,8 @@ module _ (source : List ℕ) (tree : FunctionText) (f : Function) (w : WritesWel
   Occurs row = (o : Occurrence) × Has (occurrences_of tree) o × (at : Span) × IsNameOf source f o at row
 
   occurs : (row : NameRow) (o : Occurrence) → Has f.names row → Has (occurrences_of tree) o
-      → (at : Span) × (name_at source o ≡ Some at) × (text_of source at ≡ assigned_text f row.version) × (is_default o ≡ row.initial) → Occurs row
+      → (at : Span) × (name_at source o ≡ Some at) × (text_of source at ≡ assigned_text f row.version)
+      × (is_default o ≡ row.initial) → Occurs row
   occurs row o named there found = (
     o,
     there,
@@ -203,14 +209,22 @@ module _ (source : List ℕ) (tree : FunctionText) (f : Function) (w : WritesWel
       let number : is_number_text (decimal row.version) ≡ true = decimal_is_number_text row.version (omega (arith, facts.small)) in
       let s = local_said source decl.0.ident o.0 o.2 (ap is_anonymous decl.2
       ∙ and_from (95 == 95) (is_number_text (decimal row.version)) (eq-eqb 95 95 refl) number) in
-      occurs row o.0 named o.1 (s.0, s.1, s.2 ∙ decl.2 ∙ ap (λ base. base ++ 95 ∷ decimal row.version) (sym empty) ∙ sym facts.text, s.3 ∙ sym bare.0)
+      occurs row o.0 named o.1 (
+        s.0,
+        s.1,
+        s.2 ∙ decl.2 ∙ ap (λ base. base ++ 95 ∷ decimal row.version) (sym empty)
+            ∙ sym facts.text,
+        s.3 ∙ sym bare.0,
+      )
 
   pub row_occurs : (row : NameRow) → Has f.names row → Occurs row
   row_occurs row named = by row.initial refl (name_facts f row.version row w.well w.within (row_found f w.well row named)).stands where
     by : (b : Bool) → row.initial ≡ b
-        → cond b (not (is_assigned f row.version) && is_used f row.version) (is_assigned f row.version || (same_text row.base [] && not (is_used f row.version))) ≡ true → Occurs row
+        → cond b (not (is_assigned f row.version) && is_used f row.version)
+        (is_assigned f row.version || (same_text row.base [] && not (is_used f row.version))) ≡ true → Occurs row
     by true is h = used_occurs row named (and_parts (not (is_assigned f row.version)) (is_used f row.version) h).1
     by false is h = elim (or_cases (is_assigned f row.version) (same_text row.base [] && not (is_used f row.version)) h) [
       | inl a ↦ assigned_occurs row named is a
-      | inr alone ↦ local_occurs row named (same_text_is row.base [] (and_parts (same_text row.base []) (not (is_used f row.version)) alone).0)
+      | inr alone ↦ local_occurs row named
+          (same_text_is row.base [] (and_parts (same_text row.base []) (not (is_used f row.version)) alone).0)
     ]

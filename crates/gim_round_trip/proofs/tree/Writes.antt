@@ -72,7 +72,8 @@ WritesStmt source f (items.Stmt name right) stmt = (text_of source name ≡ assi
 abbrev pub WritesEnd : List ℕ → Function → Option EndText → End → Type 0
 WritesEnd source f (Some (Goto to)) (ends.Goto number) = NamesBlock source to number
 WritesEnd source f (Some (If code a b yes_to no_to)) (ends.If op x y when_true when_false) =
-    (code ≡ op) × WritesOperand source f a x × WritesOperand source f b y × NamesBlock source yes_to when_true × NamesBlock source no_to when_false
+    (code ≡ op) × WritesOperand source f a x × WritesOperand source f b y × NamesBlock source yes_to when_true
+    × NamesBlock source no_to when_false
 WritesEnd source f (Some (Return a)) (ends.Return x) = WritesOperand source f a x
 WritesEnd source f end other = ⊥
 

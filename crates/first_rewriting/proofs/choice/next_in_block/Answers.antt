@@ -10,7 +10,8 @@ next_stmt-requires-clause-typed c =
     let block = c.args.block.now in
     let f = c.args.function.now in
     let parts = subst (EachFolds f) (sym (block_as_lists block)) c.requires.typed in
-    subst (EachFolds f) (ap (flat_map stmt_subjects) (sym c.as_slice.ensures)) (folds_left f (flat_map stmt_subjects block.stmts) (subjects_of_end block.number block.end) parts)
+    subst (EachFolds f) (ap (flat_map stmt_subjects) (sym c.as_slice.ensures))
+    (folds_left f (flat_map stmt_subjects block.stmts) (subjects_of_end block.number block.end) parts)
 
 pub end_choice-requires-clause-typed : goal.end_choice-requires-clause-typed
 end_choice-requires-clause-typed c =

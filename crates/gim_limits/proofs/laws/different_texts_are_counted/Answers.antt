@@ -1,4 +1,4 @@
-use Rattle.gim_limits.proofs.DifferentLemmas.{chosen_are_few}
+use Rattle.gim_limits.proofs.ChosenTexts.{chosen_are_few}
 use Rattle.gim_limits.proofs.laws.different_texts_are_counted.Goals as goal
 
 pub returns : goal.returns

@@ -1,5 +1,5 @@
 use Rattle.gim_limits.specs.Limits.{function_limit_faults}
-use Rattle.gim_shape.proofs.JudgingLemmas.{front_of, behind_of, passed_on}
+use Rattle.gim_shape.proofs.Judging.{front_of, behind_of, passed_on}
 use Rattle.gim_limits.proofs.limits.check_limits.Goals as goal
 
 pub returns-in_err-check_function : goal.returns-in_err-check_function

@@ -2,7 +2,7 @@ use Rattle.std.proofs.Common.{◌∙◌, sym, ap, get_or, false}
 use Rattle.std.specs.Option.{option_or}
 use Rattle.gim_making.specs.declared.places.NamePlace.{NamePlace}
 use Rattle.gim_making.specs.Names.{first_of, rows_of_place}
-use Rattle.gim_making.proofs.RowLemmas.{first_of_more}
+use Rattle.gim_making.proofs.RowTables.{first_of_more}
 use Rattle.gim_making.proofs.rows.gather.Goals as goal
 
 pub loop-place-preserved : goal.loop-place-preserved

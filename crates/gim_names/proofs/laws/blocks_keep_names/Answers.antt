@@ -1,4 +1,4 @@
-use Rattle.gim_names.proofs.KeptParts.{blocks_keep}
+use Rattle.gim_names.proofs.BlocksKeepNames.{blocks_keep}
 use Rattle.gim_names.proofs.laws.blocks_keep_names.Goals as goal
 
 pub returns : goal.returns

@@ -1,4 +1,4 @@
-use Rattle.gim_names.proofs.Keeping.{each_keeps}
+use Rattle.gim_names.proofs.NamesKept.{each_keeps}
 use Rattle.gim_names.proofs.laws.functions_keep_names.Goals as goal
 
 pub returns : goal.returns

@@ -1,4 +1,4 @@
-use Rattle.gim_names.proofs.KeptParts.{are_one}
+use Rattle.gim_names.proofs.OccurrencesAreOne.{are_one}
 use Rattle.gim_names.proofs.laws.occurrences_are_one.Goals as goal
 
 pub returns : goal.returns

@@ -5,4 +5,6 @@ use Rattle.gim_shape.specs.Tables.{has_text}
 use Rattle.gim_shape.proofs.phis.places_are_among.Given as goal
 
 abbrev pub invariant-loop-place : goal.invariant-loop-place
-invariant-loop-place l = list_all (has_text l.set) (map (text_of l.source) (drop l.place-index l.places)) ≡ list_all (has_text l.set) (map (text_of l.source) l.places)
+invariant-loop-place l =
+    list_all (has_text l.set) (map (text_of l.source) (drop l.place-index l.places))
+    ≡ list_all (has_text l.set) (map (text_of l.source) l.places)

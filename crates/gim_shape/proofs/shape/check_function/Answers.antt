@@ -1,8 +1,8 @@
 use Rattle.std.proofs.Common.{◌≡◌, ◌∷◌, drop, take, ◌-◌, length, arith}
 use Rattle.gim_shape.specs.Tables.{has_text, places_for}
-use Rattle.gim_shape.proofs.ListLemmas.{first_and_rest}
-use Rattle.gim_shape.proofs.ShapeLemmas.{body_by_tables}
+use Rattle.gim_shape.proofs.FaultsByTables.{body_by_tables}
 use Rattle.gim_shape.proofs.shape.check_function.Goals as goal
+use Rattle.gim_text.proofs.FrontsAndRests.{first_and_rest}
 
 pub returns : goal.returns
 returns c =
@@ -13,5 +13,6 @@ returns c =
     let rest = take (length blocks - 1) (drop 1 blocks) in
     let parts : blocks ≡ entry ∷ rest = first_and_rest blocks entry (omega arith) c.entry-item.is in
     rw (← c.as_slice-blocks.ensures)
-    (body_by_tables source c.args.function.now.close blocks entry rest (has_text tables.numbers) (places_for tables.jumps) c.check_blocks.result parts
+    (body_by_tables source c.args.function.now.close blocks entry rest (has_text tables.numbers)
+    (places_for tables.jumps) c.check_blocks.result parts
     c.in_ok-tables.ensures.numbers c.in_ok-tables.ensures.jumps c.check_blocks.ensures)

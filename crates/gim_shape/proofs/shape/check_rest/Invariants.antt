@@ -6,5 +6,7 @@ use Rattle.gim_shape.specs.Shape.{block_faults}
 use Rattle.gim_shape.proofs.shape.check_rest.Given as goal
 
 abbrev pub invariant-loop-block : goal.invariant-loop-block
-invariant-loop-block l = first_fault (flat_map (block_faults l.source (has_text l.tables.numbers) (places_for l.tables.jumps) true) (drop l.block-index l.rest))
+invariant-loop-block l =
+    first_fault (flat_map (block_faults l.source (has_text l.tables.numbers) (places_for l.tables.jumps) true)
+    (drop l.block-index l.rest))
     ≡ first_fault (flat_map (block_faults l.source (has_text l.tables.numbers) (places_for l.tables.jumps) true) l.rest)

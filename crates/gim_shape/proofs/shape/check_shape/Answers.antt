@@ -1,5 +1,5 @@
 use Rattle.gim_shape.specs.Shape.{function_faults}
-use Rattle.gim_shape.proofs.JudgingLemmas.{front_of, behind_of, passed_on}
+use Rattle.gim_shape.proofs.Judging.{front_of, behind_of, passed_on}
 use Rattle.gim_shape.proofs.shape.check_shape.Goals as goal
 
 pub returns-in_err-check_function : goal.returns-in_err-check_function

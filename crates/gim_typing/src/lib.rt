@@ -1,0 +1,15 @@
+//! The types of GIMPLE functions.
+//!
+//! `check_types` looks for what is not well typed (`types`). What a name means is looked up in the
+//! declarations of its function (`scope`), and what a number writes in `numbers`.
+#![tactic(auto)]
+
+mod numbers;
+mod scope;
+#[cfg(test)]
+mod tests;
+mod types;
+
+pub use numbers::number;
+pub use scope::Scope;
+pub use types::check_types;
