@@ -5,6 +5,7 @@ ghost use Rattle.std.specs.List.{AllByRecursion};
 ghost use Rattle.gim_ast.specs.declared.function.Function.{Function};
 ghost use Rattle.gim_printer.specs.Printing.{text};
 ghost use Rattle.gim_ast.specs.Readable.{IsValid};
+ghost use Rattle.gim_text.specs.declared.limits.TheConstants.{BLOCK_LIMIT, NAME_LIMIT, NUMBER_LIMIT};
 ghost use Rattle.gim_round_trip.specs.ReadBack.{MayBeReadBack};
 ghost use Rattle.match_top.specs.Answer.{Answer, status_of, out_of};
 ghost use Rattle.match_top.specs.Check.{check_needs, checked};
@@ -13,7 +14,7 @@ ghost use Rattle.match_top.specs.Given.{Work, AnswersHeld};
 ghost use Rattle.match_top.specs.Needs.{Need, limit_of};
 ghost use Rattle.match_top.specs.declared.answer.Stop.TheVariants.{Memory};
 ghost use Rattle.match_top.specs.declared.commands.check.Check.{Check};
-ghost use Rattle.match_top.specs.declared.needs.Kind.TheVariants.{Functions};
+ghost use Rattle.match_top.specs.declared.needs.Kind.TheVariants.{Patterns, FirstForm, Functions};
 ghost use Rattle.match_top.specs.declared.status.Status.TheVariants.{Done};
 
 /// What is answered to held files is determined, but that memory may run out.
@@ -33,4 +34,10 @@ pub fn what_check_prints_it_prints_again()
     ensures { (held : List ℕ → Option (List ℕ)) (command again : Check) (a b : Answer) →
         AnswersHeld (check_needs command) checked held a → status_of a ≡ Done → held again.functions ≡ Some (out_of a) →
         length (out_of a) ≤ limit_of Functions → AnswersHeld (check_needs again) checked held b → (b ≡ a) ⊎ (b ≡ Err Memory) }
+{}
+
+/// The limits of files and of functions that are read, in numbers.
+pub fn limits_in_numbers()
+    ensures files { (limit_of Patterns ≡ 4194304) × (limit_of FirstForm ≡ 16777216) × (limit_of Functions ≡ 16777216) }
+    ensures functions { (BLOCK_LIMIT ≡ 2000) × (NAME_LIMIT ≡ 20000) × (NUMBER_LIMIT ≡ 1000000000) }
 {}
