@@ -1,3 +1,5 @@
+pub mod AssignedFirst
+pub mod AssignedOnce
 pub mod CheckLemmas
 pub mod ExampleLemmas
 pub mod FlowMarks

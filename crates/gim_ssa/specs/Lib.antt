@@ -1,3 +1,4 @@
+pub mod Assigned
 pub mod Checking
 pub mod Examples
 pub mod Heads
