@@ -11,7 +11,8 @@ use std::alloc::Global;
 
 /// Whether these places have numbers below a bound.
 fn are_below(numbers: &[usize], places: &[usize], bound: usize) -> bool
-    ensures { IsTrue result → (p : ℕ) → IsTrue (is_among p places.now) → number_of numbers.now p < bound }
+    ensures { IsTrue result → (p : ℕ) → IsTrue (is_among p places.now) →
+        number_of numbers.now p < bound }
 {
     for place in places {
         if number_at(numbers, *place) >= bound {

@@ -6,4 +6,5 @@ use Rattle.gim_ssa.specs.Reach.{next_to}
 use Rattle.gim_ssa.proofs.circles.rise.Given as goal
 
 abbrev pub invariant-loop-place : goal.invariant-loop-place
-invariant-loop-place l = (p q : ℕ) → p < l.place → IsTrue (is_among q (next_to l.nexts p)) → number_of l.numbers q < number_of l.numbers p
+invariant-loop-place l = (p q : ℕ) → p < l.place → IsTrue (is_among q (next_to l.nexts p)) →
+    number_of l.numbers q < number_of l.numbers p

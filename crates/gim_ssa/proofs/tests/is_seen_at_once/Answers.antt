@@ -8,4 +8,5 @@ uses-requires c = short_blocks c.args.function.now c.requires
 
 pub assigns_first-requires-clause-fits : goal.assigns_first-requires-clause-fits
 assigns_first-requires-clause-fits c =
-    uses_fit c.args.function.now c.requires c.in_ok-plan.plan c.in_ok-plan.ensures.plan c.in_ok-plan.ensures.ready _ (c.deref.ensures.value ∙ c.in_ok-uses.ensures)
+    uses_fit c.args.function.now c.requires c.in_ok-plan.plan c.in_ok-plan.ensures.plan
+    c.in_ok-plan.ensures.ready _ (c.deref.ensures.value ∙ c.in_ok-uses.ensures)
