@@ -1,11 +1,15 @@
+pub mod Assigned
 pub mod Checking
+pub mod Circles
 pub mod Examples
 pub mod Heads
 pub mod Known
 pub mod Layout
 pub mod Marks
+pub mod Needs
 pub mod Places
 pub mod Plan
 pub mod Reach
 pub mod Search
+pub mod Standing
 pub mod Uses

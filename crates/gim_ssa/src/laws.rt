@@ -1,9 +1,11 @@
-//! What holds of readability. Each call here does nothing: its contract is a law, which its check proves.
+//! What holds of readability. Each call here does nothing: its contract is a law, which its check
+//! proves.
 ghost use Rattle.std.specs.Prelude.{◌≡◌, ◌++◌, ◌↔◌, ℕ, Bool, false, Some, List};
 ghost use Rattle.gim_ast.specs.declared.function.Function.{Function};
 ghost use Rattle.gim_ast.specs.Paths.{Stretch, flow_of, stretch_at, Path};
 ghost use Rattle.gim_ast.specs.Readable.{read_for, is_initial, Supports, IsReadable, IsValid, IsFirstUnreadable};
-ghost use Rattle.gim_ast.specs.WellFormed.{is_among};
+ghost use Rattle.gim_ast.specs.WellFormed.{IsWellFormed};
+ghost use Rattle.gim_ssa.specs.Assigned.{IsAssigned, AssignsFirst};
 ghost use Rattle.gim_ssa.specs.Marks.{AreMarks, TellsSupport, AllLeadToFresh};
 
 /// In a valid function, where a name is readable each name of its support is.
@@ -14,13 +16,15 @@ pub fn support_of_readable_is_readable()
 
 /// At a point that no path reaches, each name outside its own support is readable.
 pub fn unreached_points_read_all()
-    ensures { (f : Function) (x n : ℕ) (left : List ℕ) → ((past : List ℕ) → Path (flow_of f) n left past → ⊥) →
+    ensures { (f : Function) (x n : ℕ) (left : List ℕ) →
+        ((past : List ℕ) → Path (flow_of f) n left past → ⊥) →
         (Supports (read_for f) x x → ⊥) → IsReadable f x n left }
 {}
 
 /// A function has at most one first unreadable use.
 pub fn first_unreadable_is_one()
-    ensures { (f : Function) (n k x m j y : ℕ) → IsFirstUnreadable f n k x → IsFirstUnreadable f m j y →
+    ensures { (f : Function) (n k x m j y : ℕ) → IsFirstUnreadable f n k x →
+        IsFirstUnreadable f m j y →
         (n ≡ m) × (k ≡ j) × (x ≡ y) }
 {}
 
@@ -29,11 +33,24 @@ pub fn valid_has_no_first_unreadable()
     ensures { (f : Function) (n k x : ℕ) → IsValid f → IsFirstUnreadable f n k x → ⊥ }
 {}
 
-/// Marks at the heads of blocks decide where a name is readable: it isn't in its own support, and each mark at the
-/// head of the block leads to fresh behind the names that the block has assigned.
+/// Marks at the heads of blocks decide where a name is readable: it isn't in its own support, and
+/// each mark at the head of the block leads to fresh behind the names that the block has assigned.
 pub fn marks_decide_readability()
     ensures { (f : Function) (x : ℕ) (in_support : ℕ → Bool) (marked : ℕ → Bool → Bool) →
         TellsSupport x in_support (read_for f) → AreMarks x in_support (flow_of f) (is_initial f x) marked →
         (n : ℕ) (home : Stretch) (front left : List ℕ) → stretch_at (flow_of f) n ≡ Some home → home.assigns ≡ front ++ left →
         IsReadable f x n left ↔ ((in_support x ≡ false) × AllLeadToFresh x in_support marked n front) }
+{}
+
+/// A well-formed function is valid exactly where each use is of a name that every path to it has
+/// assigned, and no name is in its own support.
+pub fn valid_where_names_are_assigned_first()
+    ensures { (f : Function) → IsWellFormed f → IsValid f ↔ AssignsFirst f }
+{}
+
+/// In such a function a name is readable at a point, reached or not, exactly where every path to it
+/// has assigned the name.
+pub fn readable_where_assigned()
+    ensures { (f : Function) (x n : ℕ) (left : List ℕ) → IsWellFormed f → AssignsFirst f →
+        IsReadable f x n left ↔ IsAssigned f x n left }
 {}

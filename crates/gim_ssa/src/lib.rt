@@ -4,17 +4,25 @@
 //! whichever way the point was reached. The definitions stand in gim_ast: `Paths` and `Readable`.
 #![tactic(auto)]
 
+mod assigned;
 mod checking;
+mod circles;
+mod dominators;
 mod fault;
 mod known;
 pub mod laws;
 mod layout;
 mod marks;
+mod needs;
 mod places;
 mod plan;
 mod reach;
+mod rolls;
+mod rows;
 mod search;
+mod standing;
 mod uses;
+mod walks;
 
 pub use checking::check;
 pub use fault::CheckFault;

@@ -5,6 +5,9 @@ ghost use Rattle.gim_ssa.specs.Examples.{joined, looping, early, circular, unrea
 ghost use Rattle.gim_ssa.specs.Examples.{x as x_of, sum_of, phi_of, block_of, either as either_of, row_of_x, function_of};
 
 use super::*;
+use crate::assigned::assigns_first;
+use crate::plan::Plan;
+use crate::uses::uses;
 use gim_ast::{Block, Decl, End, Function, NameRow, Operands, Phi, Rhs, Stmt};
 use pm_items::Items;
 use pm_ops::{Code, OutOfMemory, Text};
@@ -218,6 +221,15 @@ fn phi_of_another_block(alloc: Global) -> Result<Function, OutOfMemory>
     function(alloc, true, blocks)
 }
 
+/// Whether it is seen at once that a function assigns each name before it reads it.
+fn is_seen_at_once(alloc: Global, function: &Function) -> Result<bool, OutOfMemory>
+    requires { IsWellFormed function.now }
+{
+    let plan = Plan::new(alloc, function)?;
+    let uses = uses(alloc, function)?;
+    assigns_first(alloc, &plan, &uses)
+}
+
 /// The fault that names a use.
 fn not_readable(block: u32, item: u32, name: u32) -> Result<(), CheckFault> {
     Err(CheckFault::NotReadable { block, item, name })
@@ -245,6 +257,17 @@ fn takes_valid_functions(rt: HostRuntime) -> Result<(), OutOfMemory> {
     assert_eq!(rt; check(alloc, &unreached_block(alloc)?), Ok(()));
     assert_eq!(rt; check(alloc, &entry_again(alloc)?), Ok(()));
     assert_eq!(rt; check(alloc, &phi_of_its_block(alloc)?), Ok(()));
+    Ok(())
+}
+
+/// Valid functions are seen to be valid without a look at single names.
+#[test]
+fn sees_valid_functions_at_once(rt: HostRuntime) -> Result<(), OutOfMemory> {
+    let alloc = rt.alloc();
+    assert_eq!(rt; is_seen_at_once(alloc, &loop_with_phi(alloc)?), Ok(true));
+    assert_eq!(rt; is_seen_at_once(alloc, &unreached_block(alloc)?), Ok(true));
+    assert_eq!(rt; is_seen_at_once(alloc, &entry_again(alloc)?), Ok(true));
+    assert_eq!(rt; is_seen_at_once(alloc, &phi_of_its_block(alloc)?), Ok(true));
     Ok(())
 }
 
