@@ -1,4 +1,5 @@
 pub mod FlowKept
+pub mod Insertions
 pub mod LoopLemmas
 pub mod PlaceCounts
 pub mod PlaceItems
