@@ -1,7 +1,12 @@
+pub mod AssignedBefore
+pub mod DistinctNumbers
 pub mod FlowKept
 pub mod Insertions
 pub mod LoopLemmas
+pub mod Members
+pub mod NamesRead
 pub mod PlaceCounts
 pub mod PlaceItems
+pub mod Points
 pub mod TrimmedFirst
 pub mod Unused
