@@ -1,3 +1,4 @@
+pub mod AlwaysAssigned
 pub mod AssignedBefore
 pub mod DistinctNumbers
 pub mod FlowKept
@@ -8,5 +9,6 @@ pub mod NamesRead
 pub mod PlaceCounts
 pub mod PlaceItems
 pub mod Points
+pub mod RulesOfNames
 pub mod TrimmedFirst
 pub mod Unused
