@@ -1,11 +1,13 @@
 pub mod AlwaysAssigned
 pub mod AssignedBefore
+pub mod ComesBefore
 pub mod DistinctNumbers
 pub mod FlowKept
 pub mod Insertions
 pub mod LoopLemmas
 pub mod Members
 pub mod NamesRead
+pub mod NamesUsed
 pub mod PlaceCounts
 pub mod PlaceItems
 pub mod Points

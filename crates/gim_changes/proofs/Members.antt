@@ -1,7 +1,8 @@
 -- Members of lists: what holds of each, and of parts that were made from them.
-use Rattle.std.proofs.Common.{◌≡◌, ◌⊎◌, Bool, true, false, cond, List, [], ◌∷◌, ◌++◌, map, filter, refl, sym, ap, subst, inl, inr, ⊎_elim}
+use Rattle.std.proofs.Common.{◌≡◌, ◌⊎◌, ℕ, zero, suc, Bool, true, false, cond, Some, slice_get, List, [], ◌∷◌, ◌++◌, map, filter, refl, sym, ap, subst, inl, inr, ⊎_elim}
 use Rattle.std.specs.List.{list_any, list_all, flat_map, AllByRecursion}
 use Rattle.std.proofs.lemmas.Bool.{and_parts, and_from, or_cases, or_left, or_right, both_ways}
+use Rattle.std.proofs.lemmas.Option.{same_Some, none-some}
 
 -- x stands in the list, at the head or later
 abbrev pub IsMember : {X : Type 0} → X → List X → Type 0
@@ -68,6 +69,11 @@ module _ {X : Type 0} where
       (λ here. ([], xs, ap (λ y. y ∷ xs) here))
       (λ later. let found = member_splits x xs later in (z ∷ found.0, found.1, ap (λ l. z ∷ l) found.2))
       one
+
+  pub slice_member : (xs : List X) (place : ℕ) (x : X) → slice_get xs place ≡ Some x → IsMember x xs
+  slice_member [] place x is = absurd (none-some x is)
+  slice_member (y ∷ xs) zero x is = inl (same_Some y x is)
+  slice_member (y ∷ xs) (suc place) x is = inr (slice_member xs place x is)
 
   -- ---- filtered lists
 
