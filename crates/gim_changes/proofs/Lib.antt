@@ -2,6 +2,7 @@ pub mod AlwaysAssigned
 pub mod AssignedBefore
 pub mod ComesBefore
 pub mod DistinctNumbers
+pub mod FilteredLists
 pub mod FlowKept
 pub mod Insertions
 pub mod LoopLemmas
@@ -11,6 +12,7 @@ pub mod NamesUsed
 pub mod PlaceCounts
 pub mod PlaceItems
 pub mod Points
+pub mod ReadyToTrim
 pub mod RulesOfNames
 pub mod TrimmedFirst
 pub mod Unused
