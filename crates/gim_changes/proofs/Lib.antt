@@ -1,5 +1,6 @@
 pub mod AlwaysAssigned
 pub mod AssignedBefore
+pub mod ChangedBlocks
 pub mod ComesBefore
 pub mod DistinctNumbers
 pub mod FilteredLists
@@ -9,6 +10,7 @@ pub mod LoopLemmas
 pub mod Members
 pub mod NamesRead
 pub mod NamesUsed
+pub mod PathsWithout
 pub mod PlaceCounts
 pub mod PlaceItems
 pub mod Points
