@@ -7,7 +7,7 @@ use Rattle.gim_ast.specs.declared.function.Function.{Function}
 use Rattle.gim_ast.specs.declared.function.Block.{Block}
 use Rattle.gim_ast.specs.declared.function.Phi.{Phi}
 use Rattle.gim_ast.specs.declared.function.NameRow.{NameRow}
-use Rattle.gim_ast.specs.Functions.{is_name, operands_of, operands_of_block, assigned, targets_of, is_used}
+use Rattle.gim_ast.specs.Functions.{is_name, operands_of, operands_of_block, assigned, targets_of, row_of, is_used}
 use Rattle.gim_ast.specs.WellFormed.{all_distinct, is_among, is_assigned, is_empty, entry_has_no_phi, numbers_of, predecessors, phi_blocks, phi_holds, blocks_hold, operand_holds, block_fits, operands_hold, bounds_hold, base_holds, row_stands, IsWellFormed}
 use Rattle.gim_changes.specs.Trimming.{stands_in}
 use Rattle.gim_changes.proofs.Members.{IsMember, all_members, all_from_members, member_from_any, member_of_parts, part_member}
@@ -180,6 +180,11 @@ block_holds f h b one =
       each = λ a mine. all_members (operand_holds f) (operands_of f) parts.0 a (part_member operands_of_block a b f.blocks one mine);
       fits = all_members (block_fits f) f.blocks parts.1 b one;
     }
+
+-- whether a block holds doesn't go by the blocks of the function
+pub holds_with_blocks : (f : Function) (bs : List Block) (b : Block) → BlockHolds f b → BlockHolds (with_blocks bs f) b
+unfolding row_of
+holds_with_blocks f bs b holds = record { each = holds.each; fits = holds.fits }
 
 pub operands_from : (f : Function) → ((b : Block) → IsMember b f.blocks → BlockHolds f b) → operands_hold f ≡ true
 unfolding operands_of

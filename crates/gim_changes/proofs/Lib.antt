@@ -18,3 +18,4 @@ pub mod ReadyToTrim
 pub mod RulesOfNames
 pub mod TrimmedFirst
 pub mod Unused
+pub mod ValidWithout
