@@ -5,8 +5,10 @@ pub mod ComesBefore
 pub mod DistinctNumbers
 pub mod FilteredLists
 pub mod FlowKept
+pub mod GoodOperands
 pub mod Insertions
 pub mod LoopLemmas
+pub mod MappedBlocks
 pub mod Members
 pub mod NamesRead
 pub mod NamesUsed
