@@ -18,6 +18,10 @@ pub mod PlaceItems
 pub mod Points
 pub mod ReadyToTrim
 pub mod RulesOfNames
+pub mod SupportChanges
 pub mod TrimmedFirst
 pub mod Unused
+pub mod ValidCondition
+pub mod ValidRightSide
+pub mod ValidSubstitution
 pub mod ValidWithout

@@ -1,9 +1,10 @@
 -- A function whose phis, statements and ends are changed where they stand, so that paths see the same: it is valid where each new operand may stand at
 -- its point, each part is well typed, and no name gets into its own support.
-use Rattle.std.proofs.Common.{◌≡◌, ℕ, suc, ◌+◌, Bool, true, false, cond, Option, Some, None, List, [], ◌∷◌, ◌++◌, length, map, flat_map, eqb, option_map, refl, sym, ap, ◌∙◌, subst, ⊎_elim, arith, length-append}
+use Rattle.std.proofs.Common.{◌≡◌, ℕ, suc, ◌+◌, ◌^◌, Bool, true, false, cond, Option, Some, None, List, [], ◌∷◌, ◌++◌, length, map, flat_map, eqb, option_map, refl, sym, ap, ◌∙◌, subst, ⊎_elim, arith, length-append}
 use Rattle.std.specs.Option.{option_map_or}
 use Rattle.std.proofs.lemmas.Bool.{and_from, both_ways, eqb-true, eq-eqb}
-use Rattle.std.proofs.lemmas.List.{map-append}
+use Rattle.std.proofs.lemmas.List.{map-append, length-map}
+use Rattle.std.specs.Prelude.{nat_lt, ◌&&◌}
 use Rattle.pm_wide.specs.declared.operand.Operand.{Operand}
 use Rattle.pm_wide.specs.declared.operand.Operand.TheVariants.{Name}
 use Rattle.gim_ast.specs.declared.function.Function.{Function}
@@ -12,7 +13,7 @@ use Rattle.gim_ast.specs.declared.function.Phi.{Phi}
 use Rattle.gim_ast.specs.declared.function.Stmt.{Stmt}
 use Rattle.gim_ast.specs.declared.function.Rhs.{Rhs}
 use Rattle.gim_ast.specs.declared.function.End.{End}
-use Rattle.gim_ast.specs.Functions.{is_name, operands_of_block, operands_of_phi, operands_of_stmt, operands_of_end, operands_of_rhs, assigned, phi_name, stmt_name, stmts_of, right_of, row_of, targets_of, first_where, is_used}
+use Rattle.gim_ast.specs.Functions.{is_name, operands_of, operands_of_block, operands_of_phi, operands_of_stmt, operands_of_end, operands_of_rhs, assigned, phi_name, stmt_name, stmts_of, right_of, row_of, targets_of, first_where, is_used}
 use Rattle.gim_ast.specs.WellFormed.{is_among, phi_blocks, phi_fits, stmt_fits, end_fits, operands_hold, bounds_hold}
 use Rattle.gim_ast.specs.Paths.{Stretch, stretch_of, flow_of, Path}
 use Rattle.gim_ast.specs.Readable.{names_among, read_for, is_initial, Supports, IsValid}
@@ -88,7 +89,7 @@ module _ (change_phi : Phi → Phi) (change_stmt : Stmt → Stmt) (end_of : Bloc
   same_flow : (bs : List Block) → map stretch_of (map changed bs) ≡ map stretch_of bs
   same_flow bs = unseen stretch_of changed same_stretch bs
 
-  same_assigned : (f : Function) → assigned (mapped_in f) ≡ assigned f
+  pub same_assigned : (f : Function) → assigned (mapped_in f) ≡ assigned f
   same_assigned f =
       sym (assigned_in_flow (mapped_in f)) ∙ (ap (λ flow. flat_map (λ (s : Stretch). s.assigns) flow) (same_flow f.blocks) ∙ assigned_in_flow f)
 
@@ -219,3 +220,40 @@ module _ (change_phi : Phi → Phi) (change_stmt : Stmt → Stmt) (end_of : Bloc
         (λ x used is. subst (λ l. is_among x l ≡ true) (sym (same_assigned f)) is)
         stood_changed (mapped_like changed like_changed f.blocks) (operands_changed typed) bounds)
         apart assigned_changed
+
+-- ---- as many operands as before
+
+same_count : {X Y : Type 0} (g : X → List Y) (change : X → X) → ((x : X) → length (g (change x)) ≡ length (g x)) → (xs : List X) → length (flat_map g (map change xs)) ≡ length (flat_map g xs)
+same_count g change same [] = refl
+same_count g change same (x ∷ xs) =
+    length-append (g (change x)) (flat_map g (map change xs)) ∙ (ap (λ n. n + length (flat_map g (map change xs))) (same x)
+    ∙ (ap (λ n. length (g x) + n) (same_count g change same xs) ∙ sym (length-append (g x) (flat_map g xs))))
+
+-- a block with as many operands
+pub block_count : (b c : Block) → length (flat_map operands_of_phi c.phis) ≡ length (flat_map operands_of_phi b.phis) → length (flat_map operands_of_stmt c.stmts) ≡ length (flat_map operands_of_stmt b.stmts) →
+    length (operands_of_end c.end) ≡ length (operands_of_end b.end) → length (operands_of_block c) ≡ length (operands_of_block b)
+block_count b c phis stmts ends =
+    let old = length-append (flat_map operands_of_phi b.phis ++ flat_map operands_of_stmt b.stmts) (operands_of_end b.end) in
+    let old_front = length-append (flat_map operands_of_phi b.phis) (flat_map operands_of_stmt b.stmts) in
+    let new = length-append (flat_map operands_of_phi c.phis ++ flat_map operands_of_stmt c.stmts) (operands_of_end c.end) in
+    let new_front = length-append (flat_map operands_of_phi c.phis) (flat_map operands_of_stmt c.stmts) in
+    omega (arith, phis, stmts, ends, old, old_front, new, new_front)
+
+pub phis_count : (change : Phi → Phi) → ((phi : Phi) → length (operands_of_phi (change phi)) ≡ length (operands_of_phi phi)) → (phis : List Phi) →
+    length (flat_map operands_of_phi (map change phis)) ≡ length (flat_map operands_of_phi phis)
+phis_count change same phis = same_count operands_of_phi change same phis
+
+pub stmts_count : (change : Stmt → Stmt) → ((s : Stmt) → length (operands_of_stmt (change s)) ≡ length (operands_of_stmt s)) → (stmts : List Stmt) →
+    length (flat_map operands_of_stmt (map change stmts)) ≡ length (flat_map operands_of_stmt stmts)
+stmts_count change same stmts = same_count operands_of_stmt change same stmts
+
+pub bounds_of_count : (f : Function) (change : Block → Block) → ((b : Block) → length (operands_of_block (change b)) ≡ length (operands_of_block b)) → bounds_hold f ≡ true →
+    bounds_hold (with_blocks (map change f.blocks) f) ≡ true
+unfolding operands_of
+bounds_of_count f change same holds =
+    subst (λ n. (nat_lt n (2 ^ 31) && nat_lt (length f.names) (2 ^ 31) && nat_lt (length (flat_map operands_of_block (map change f.blocks))) (2 ^ 31)) ≡ true) (sym (length-map f.blocks change))
+    (subst (λ n. (nat_lt (length f.blocks) (2 ^ 31) && nat_lt (length f.names) (2 ^ 31) && nat_lt n (2 ^ 31)) ≡ true) (sym (same_count operands_of_block change same f.blocks)) holds)
+
+pub mapped_alike : {X Y : Type 0} (g h : X → Y) → ((x : X) → g x ≡ h x) → (xs : List X) → map g xs ≡ map h xs
+mapped_alike g h same [] = refl
+mapped_alike g h same (x ∷ xs) = ap (λ y. y ∷ map g xs) (same x) ∙ ap (λ l. h x ∷ l) (mapped_alike g h same xs)

@@ -185,7 +185,7 @@ trimmed_well_formed f ready = record {
 
 -- ---- functions whose rows all stand
 
-stays_where_stands : (f : Function) (row : NameRow) → row_stands f row ≡ true → row_stays f row ≡ true
+pub stays_where_stands : (f : Function) (row : NameRow) → row_stands f row ≡ true → row_stays f row ≡ true
 stays_where_stands f row stands = ⊎_elim
     (λ initial. or_left (stands_in f row.version) (is_empty_text row.base) (used_stands f row.version initial.2))
     (λ other. ⊎_elim

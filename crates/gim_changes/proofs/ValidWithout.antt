@@ -15,7 +15,7 @@ use Rattle.gim_ast.specs.declared.function.Rhs.{Rhs}
 use Rattle.gim_ast.specs.Functions.{row_of, targets_of, operands_of, operands_of_block, operands_of_phi, operands_of_stmt, operands_of_end, operands_of_rhs, assigned, stmt_name, stmts_of, right_of, first_where, is_used}
 use Rattle.gim_ast.specs.WellFormed.{is_among, is_assigned, phi_fits, stmt_fits, end_fits, operands_hold, bounds_hold, IsWellFormed}
 use Rattle.gim_ast.specs.Paths.{stretch_of, flow_of, Path}
-use Rattle.gim_ast.specs.Readable.{names_among, read_for, is_initial, Supports, operand, further, IsValid}
+use Rattle.gim_ast.specs.Readable.{names_among, read_for, is_initial, IsValid}
 use Rattle.gim_changes.specs.Removal.{phi_stays, stmt_stays, without, without_in_block, last_or, last_unused, unused}
 use Rattle.gim_changes.specs.Trimming.{trimmed, tidied}
 use Rattle.gim_changes.specs.Validity.{IsAssignedAfter}
@@ -30,13 +30,9 @@ use Rattle.gim_changes.proofs.NamesUsed.{read_is_used, used_stands, operand_of_p
 use Rattle.gim_changes.proofs.RulesOfNames.{ordered, StandsAt, among_member, member_among, reader}
 use Rattle.gim_changes.proofs.AlwaysAssigned.{AreUsesAssigned, uses_assigned, point_of_stmt}
 use Rattle.gim_changes.proofs.ComesBefore.{none_in_own_support}
+use Rattle.gim_changes.proofs.SupportChanges.{supports_within}
 use Rattle.gim_changes.proofs.ReadyToTrim.{IsReadyToTrim, trimmed_valid, trimmed_is, assigned_from_more, below}
 use Rattle.gim_changes.proofs.ChangedBlocks.{IsLikeBlock, mapped_like, with_blocks, ready_with_blocks, BlockHolds, block_holds, holds_with_blocks, operands_from}
-
--- a support with fewer reads is within the support
-pub supports_within : (reads fewer : ℕ → List ℕ) → ((x y : ℕ) → is_among y (fewer x) ≡ true → is_among y (reads x) ≡ true) → (x y : ℕ) → Supports fewer x y → Supports reads x y
-supports_within reads fewer within x y (operand _ _ reads_it) = operand x y (within x y reads_it)
-supports_within reads fewer within x y (further _ w _ reads_it rest) = further x w y (within x w reads_it) (supports_within reads fewer within w y rest)
 
 abbrev first_stmt : Stmt → List Stmt → Stmt
 first_stmt d [] = d
