@@ -1,4 +1,5 @@
 pub mod AlwaysAssigned
+pub mod AnonymousNames
 pub mod AssignedBefore
 pub mod ChangedBlocks
 pub mod ComesBefore
