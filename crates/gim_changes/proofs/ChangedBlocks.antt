@@ -121,26 +121,25 @@ blocks_kept f g like h =
 
 -- ---- rows
 
--- where the blocks assign nothing new, and all that they use is assigned if it was, the rows are still those of the names, or stay behind
-pub rows_may_stay : (f g : Function) → IsWellFormed f → ((x : ℕ) → is_assigned g x ≡ true → is_assigned f x ≡ true) →
-    ((x : ℕ) → is_used g x ≡ true → is_assigned f x ≡ true → is_assigned g x ≡ true) → ((x : ℕ) → is_used g x ≡ true → stands_in f x ≡ true) →
-    (row : NameRow) → IsMember row f.names → MayStay g row
-rows_may_stay f g well fewer still stood row one =
+-- where the blocks assign nothing new, and what they use is assigned if it was, a row is still that of its name, or stays behind
+pub row_may_stay : (f g : Function) → IsWellFormed f → (row : NameRow) → IsMember row f.names → (is_assigned g row.version ≡ true → is_assigned f row.version ≡ true) →
+    (is_used g row.version ≡ true → is_assigned f row.version ≡ true → is_assigned g row.version ≡ true) → (is_used g row.version ≡ true → stands_in f row.version ≡ true) → MayStay g row
+row_may_stay f g well row one fewer still stood =
     let holds = all_members (λ (r : NameRow). base_holds f r && row_stands f r) f.names (rows_hold f well.names) row one in
     ⊎_elim
     (λ initial. record {
-      initial = λ is. false_from_ne_true (is_assigned g row.version) (λ assigned. both_ways (is_assigned f row.version) initial.1 (fewer row.version assigned));
+      initial = λ is. false_from_ne_true (is_assigned g row.version) (λ assigned. both_ways (is_assigned f row.version) initial.1 (fewer assigned));
       other = λ plain used. absurd (both_ways row.initial plain initial.0);
     })
     (λ plain. record {
       initial = λ is. absurd (both_ways row.initial plain.0 is);
-      other = λ is used. still row.version used (⊎_elim
+      other = λ is used. still used (⊎_elim
           (λ assigned. assigned)
           (λ used_before. ⊎_elim
           (λ assigned. assigned)
           (λ alone. absurd (both_ways (is_used f row.version) (not-true (is_used f row.version) (and_parts _ _ alone).1) used_before))
           (or_cases (is_assigned f row.version) _ plain.1))
-          (or_cases (is_assigned f row.version) (is_used f row.version) (stood row.version used)));
+          (or_cases (is_assigned f row.version) (is_used f row.version) (stood used)));
     })
     (row_cases f row (and_parts _ _ holds).1)
 
@@ -156,7 +155,7 @@ ready_with_blocks f bs well fewer once still stood like operands bounds = record
   types = well.types;
   rise = (and_parts _ _ (and_parts _ _ (and_parts _ _ (and_parts _ _ well.names).0).0).0).0;
   bases = λ row one. (and_parts _ _ (all_members (λ (r : NameRow). base_holds f r && row_stands f r) f.names (rows_hold f well.names) row one)).0;
-  rows = rows_may_stay f (with_blocks bs f) well fewer still stood;
+  rows = λ row one. row_may_stay f (with_blocks bs f) well row one (fewer row.version) (still row.version) (stood row.version);
   initials = (and_parts _ _ (and_parts _ _ (and_parts _ _ well.names).0).0).1;
   locals = (and_parts _ _ (and_parts _ _ well.names).0).1;
   once = once;

@@ -104,7 +104,7 @@ module _ (before : ℕ) (stmt : Stmt) where
       ∙ ap (λ l. b ∷ l) (blocks_back place bs (λ c one. none c (inr one)))
 
   -- where the new name stands among all that are assigned
-  assigned_splits : (place : ℕ) (bs : List Block) (home : Block) → slice_get bs place ≡ Some home →
+  pub assigned_splits : (place : ℕ) (bs : List Block) (home : Block) → slice_get bs place ≡ Some home →
       (us : List ℕ) × (ws : List ℕ) × (flat_map assigned_in bs ≡ us ++ ws) × (flat_map assigned_in (changed_at place (insert_in_block before stmt) bs) ≡ us ++ stmt.name ∷ ws)
   assigned_splits place [] home is = absurd (none-some home is)
   assigned_splits zero (b ∷ bs) home is =
@@ -156,7 +156,7 @@ used_has_row f well y used =
 
 -- a version above all rows is that of no name
 module _ (f : Function) (well : IsWellFormed f) (v : ℕ) (new : list_all (λ (row : NameRow). nat_lt row.version v) f.names ≡ true) where
-  row_below : (row : NameRow) → IsMember row f.names → row.version < v
+  pub row_below : (row : NameRow) → IsMember row f.names → row.version < v
   row_below row one = ltb-true row.version v (all_members (λ (r : NameRow). nat_lt r.version v) f.names new row one)
 
   pub row_is_old : (row : NameRow) → IsMember row f.names → row.version ≡ v → ⊥

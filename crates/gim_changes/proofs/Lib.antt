@@ -7,6 +7,7 @@ pub mod DistinctNumbers
 pub mod FilteredLists
 pub mod FlowKept
 pub mod GoodOperands
+pub mod GrownRules
 pub mod InsertedStatement
 pub mod Insertions
 pub mod LoopLemmas
