@@ -147,7 +147,7 @@ module _ (place before : ℕ) (stmt : Stmt) (decl : Decl) (f : Function) (valid 
 
   -- ---- rows
 
-  row_more : (p : NameRow → Bool) (y : ℕ) → option_map_or p (row_of f y) false ≡ true → option_map_or p (row_of g y) false ≡ true
+  pub row_more : (p : NameRow → Bool) (y : ℕ) → option_map_or p (row_of f y) false ≡ true → option_map_or p (row_of g y) false ≡ true
   unfolding row_of
   row_more p y holds = by (first_where (λ (row : NameRow). eqb row.version y) f.names) refl holds
     where
@@ -270,7 +270,7 @@ module _ (place before : ℕ) (stmt : Stmt) (decl : Decl) (f : Function) (valid 
   new_base = any_from_member (λ (d : Decl). same_text d.ident (anonymous stmt.name) && same_type d.ty decl.ty) (f.decls ++ decl ∷ []) decl (member_right decl f.decls (decl ∷ []) (inl refl))
       (and_from _ _ (subst (λ t. same_text decl.ident t ≡ true) may.declared (same_text_itself decl.ident)) (same_type_itself decl.ty))
 
-  new_assigned : is_assigned g stmt.name ≡ true
+  pub new_assigned : is_assigned g stmt.name ≡ true
   unfolding assigned
   new_assigned =
       let found = assigned_splits before stmt place f.blocks may.home may.at in

@@ -25,6 +25,7 @@ pub mod SupportChanges
 pub mod TrimmedFirst
 pub mod Unused
 pub mod ValidCondition
+pub mod ValidInsertion
 pub mod ValidRightSide
 pub mod ValidSubstitution
 pub mod ValidWithout

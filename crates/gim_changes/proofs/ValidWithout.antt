@@ -150,7 +150,7 @@ module _ (x : ℕ) where
   stays_with : (y : ℕ) → (y ≡ x → ⊥) → (stmt : Stmt) → eqb stmt.name y ≡ true → stmt_stays x stmt ≡ true
   stays_with y apart stmt is = ap not (false_from_ne_true (eqb stmt.name x) (λ same. apart (sym (eqb-true stmt.name y is) ∙ eqb-true stmt.name x same)))
 
-  reads_same : (f : Function) (y : ℕ) → (y ≡ x → ⊥) → read_for (without x f) y ≡ read_for f y
+  pub reads_same : (f : Function) (y : ℕ) → (y ≡ x → ⊥) → read_for (without x f) y ≡ read_for f y
   unfolding without read_for right_of
   reads_same f y apart =
       ap (λ o. option_map_or (λ (rhs : Rhs). names_among (operands_of_rhs rhs)) (option_map (λ (s : Stmt). s.rhs) o) [])
@@ -183,12 +183,12 @@ module _ (x : ℕ) where
       ap (λ l. stretch_of (without_in_block x b) ∷ l) (flow_in_blocks bs)
       ∙ ap (λ names. record { number = b.number; assigns = names; targets = targets_of b.end } ∷ map (less x) (map stretch_of bs)) (others_in_block x b)
 
-  flow_without : (f : Function) → flow_of (without x f) ≡ map (less x) (flow_of f)
+  pub flow_without : (f : Function) → flow_of (without x f) ≡ map (less x) (flow_of f)
   unfolding without
   flow_without f = flow_in_blocks f.blocks
 
   -- the place of a statement among all, from its place among those that stay
-  stmt_before : (stmts front : List Stmt) (stmt : Stmt) (rest : List Stmt) → filter (stmt_stays x) stmts ≡ front ++ stmt ∷ rest →
+  pub stmt_before : (stmts front : List Stmt) (stmt : Stmt) (rest : List Stmt) → filter (stmt_stays x) stmts ≡ front ++ stmt ∷ rest →
       (all_front : List Stmt) × (all_rest : List Stmt) × (stmts ≡ all_front ++ stmt ∷ all_rest) × (filter (stmt_stays x) all_rest ≡ rest)
   stmt_before [] front stmt rest e = absurd (none_of_nothing front e)
     where
@@ -210,7 +210,7 @@ module _ (x : ℕ) where
       by true [] more is = ([], stmts, ap (λ z. z ∷ stmts) (ap (first_stmt stmt) is), ap rest_of_stmts is)
       by true (u ∷ us) more is = longer more us (ap rest_of_stmts is)
 
-  left_before : (stmt : Stmt) (rest all_rest : List Stmt) → stmt_stays x stmt ≡ true → filter (stmt_stays x) all_rest ≡ rest →
+  pub left_before : (stmt : Stmt) (rest all_rest : List Stmt) → stmt_stays x stmt ≡ true → filter (stmt_stays x) all_rest ≡ rest →
       map stmt_name (stmt ∷ rest) ≡ filter (other x) (map stmt_name (stmt ∷ all_rest))
   left_before stmt rest all_rest stays is =
       rw stays (ap (λ l. stmt.name ∷ l) (ap (map stmt_name) (sym is) ∙ names_of_others stmt_name x all_rest))
