@@ -33,6 +33,11 @@ changed_member place change [] x is = absurd (none-some x is)
 changed_member zero change (y ∷ xs) x is = inl (ap change (same_Some y x is))
 changed_member (suc place) change (y ∷ xs) x is = inr (changed_member place change xs x is)
 
+pub changed_there : {X : Type 0} (place : ℕ) (change : X → X) (xs : List X) (x : X) → slice_get xs place ≡ Some x → slice_get (changed_at place change xs) place ≡ Some (change x)
+changed_there place change [] x is = absurd (none-some x is)
+changed_there zero change (y ∷ xs) x is = ap (λ z. Some (change z)) (same_Some y x is)
+changed_there (suc place) change (y ∷ xs) x is = changed_there place change xs x is
+
 -- an element of the changed list is an old one, or the changed one
 pub member_changed : {X : Type 0} (place : ℕ) (change : X → X) (xs : List X) (x : X) → slice_get xs place ≡ Some x → (y : X) → IsMember y (changed_at place change xs) → IsMember y xs ⊎ (change x ≡ y)
 member_changed place change [] x is y one = absurd one

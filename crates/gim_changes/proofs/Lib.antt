@@ -8,6 +8,7 @@ pub mod FilteredLists
 pub mod FlowKept
 pub mod GoodOperands
 pub mod GrownRules
+pub mod InsertedName
 pub mod InsertedStatement
 pub mod Insertions
 pub mod LoopLemmas

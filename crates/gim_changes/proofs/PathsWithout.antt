@@ -52,7 +52,7 @@ no_longer v us vs e =
     omega (arith, long)
 
 -- what stands before one list is one list
-front_is : (front us vs : List ℕ) → front ++ vs ≡ us ++ vs → front ≡ us
+pub front_is : (front us vs : List ℕ) → front ++ vs ≡ us ++ vs → front ≡ us
 front_is [] [] vs e = refl
 front_is [] (u ∷ us) vs e = absurd (no_longer u us vs e)
 front_is (z ∷ front) [] vs e = absurd (no_longer z front vs (sym e))

@@ -11,7 +11,7 @@ supports_within reads fewer within x y (further _ w _ reads_it rest) = further x
 
 module _ (reads : ℕ → List ℕ) where
   -- a name, or one of its support
-  abbrev IsOrSupports : ℕ → ℕ → Type 0
+  abbrev pub IsOrSupports : ℕ → ℕ → Type 0
   IsOrSupports y z = (y ≡ z) ⊎ Supports reads y z
 
   -- y is read in place of x
@@ -39,7 +39,7 @@ module _ (reads : ℕ → List ℕ) where
   -- x reads new names
   module _ (turned : ℕ → List ℕ) (x : ℕ) (IsNew : ℕ → Type 0) (read : (w z : ℕ) → is_among z (turned w) ≡ true → (is_among z (reads w) ≡ true) ⊎ ((w ≡ x) × IsNew z))
       (apart : (y : ℕ) → IsNew y → IsOrSupports y x → ⊥) where
-    abbrev ThroughNew : ℕ → ℕ → Type 0
+    abbrev pub ThroughNew : ℕ → ℕ → Type 0
     ThroughNew w z = Supports reads w z ⊎ (IsOrSupports w x × ((y : ℕ) × IsNew y × IsOrSupports y z))
 
     new_further : (w u z : ℕ) → (is_among u (reads w) ≡ true) ⊎ ((w ≡ x) × IsNew u) → ThroughNew u z → ThroughNew w z
@@ -49,7 +49,7 @@ module _ (reads : ℕ → List ℕ) where
     new_further w u z (inr new) (inl rest) = inr (inl new.0, (u, new.1, inr rest))
     new_further w u z (inr new) (inr rest) = absurd (apart u new.1 rest.0)
 
-    through_new : (w z : ℕ) → Supports turned w z → ThroughNew w z
+    pub through_new : (w z : ℕ) → Supports turned w z → ThroughNew w z
     through_new w z (operand _ _ reads_it) = ⊎_elim (λ old. inl (operand w z old)) (λ new. inr (inl new.0, (z, new.1, inl refl))) (read w z reads_it)
     through_new w z (further _ u _ reads_it rest) = new_further w u z (read w u reads_it) (through_new u z rest)
 

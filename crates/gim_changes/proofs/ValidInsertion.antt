@@ -77,7 +77,7 @@ module _ (place before : ℕ) (stmt : Stmt) (decl : Decl) (f : Function) (valid 
   old_stmt b one s mine =
       assigned_is_old f valid.well_formed stmt.name may.new s.name (stmt_is_assigned f b one s mine)
 
-  home_is : IsMember may.home f.blocks
+  pub home_is : IsMember may.home f.blocks
   home_is = slice_member f.blocks place may.home may.at
 
   -- ---- supports
@@ -93,7 +93,7 @@ module _ (place before : ℕ) (stmt : Stmt) (decl : Decl) (f : Function) (valid 
       (new, met.0, met.1))
       (member_changed place (insert_in_block before stmt) f.blocks may.home may.at c one)
 
-  read_new : (w z : ℕ) → is_among z (read_for g w) ≡ true → (is_among z (read_for f w) ≡ true) ⊎ ((w ≡ stmt.name) × IsMember z (names_among (operands_of_rhs stmt.rhs)))
+  pub read_new : (w z : ℕ) → is_among z (read_for g w) ≡ true → (is_among z (read_for f w) ≡ true) ⊎ ((w ≡ stmt.name) × IsMember z (names_among (operands_of_rhs stmt.rhs)))
   read_new w z reads = ⊎_elim
       (λ (same : w ≡ stmt.name).
       let found = reader g w z reads in
@@ -103,7 +103,7 @@ module _ (place before : ℕ) (stmt : Stmt) (decl : Decl) (f : Function) (valid 
       (λ apart. inl (subst (λ l. is_among z l ≡ true) (sym (reads_same stmt.name g w apart) ∙ reads_without_new place before stmt decl f valid.well_formed may.new w) reads))
       (cases_eq w stmt.name)
 
-  new_apart : (y : ℕ) → IsMember y (names_among (operands_of_rhs stmt.rhs)) → (y ≡ stmt.name) ⊎ Supports (read_for f) y stmt.name → ⊥
+  pub new_apart : (y : ℕ) → IsMember y (names_among (operands_of_rhs stmt.rhs)) → (y ≡ stmt.name) ⊎ Supports (read_for f) y stmt.name → ⊥
   new_apart y new back =
       let found = named y (operands_of_rhs stmt.rhs) new in
       let stands = (new_good place before stmt decl f valid may (Name y found.0) found.1).stands y (eq-eqb y y refl) in
@@ -207,10 +207,10 @@ module _ (place before : ℕ) (stmt : Stmt) (decl : Decl) (f : Function) (valid 
       (λ none. absurd none) last)
       (member_cases row f.names (row_for stmt decl ∷ []) one))
 
-  grown_valid : IsValid g
+  pub grown_valid : IsValid g
   grown_valid = subst IsValid (trimmed_with_all g all_rows_stay) (trimmed_valid g (ready_grown place before stmt decl f valid may) none_grown all_assigned)
 
-  grown_is : with_stmt place before stmt decl f ≡ g
+  pub grown_is : with_stmt place before stmt decl f ≡ g
   unfolding with_stmt
   grown_is = refl
 

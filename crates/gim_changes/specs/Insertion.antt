@@ -1,5 +1,5 @@
 -- Insertion: a new statement before a place of a block, with the declaration and the row of `names` of what it assigns, which is an anonymous name.
-use Rattle.std.specs.Prelude.{◌≡◌, ℕ, ◌≤◌, ◌<◌, ◌^◌, zero, suc, false, IsTrue, nat_lt, Some, List, [], ◌∷◌, ◌++◌, length, map, drop, insert, slice_get}
+use Rattle.std.specs.Prelude.{◌≡◌, ℕ, ◌≤◌, ◌<◌, ◌^◌, zero, suc, ◌==◌, false, not, filter, IsTrue, nat_lt, Some, List, [], ◌∷◌, ◌++◌, length, map, drop, insert, slice_get}
 use Rattle.std.specs.List.{list_all, AllByRecursion}
 use Rattle.gim_ast.specs.Functions.{operands_of_rhs, stmt_name}
 use Rattle.gim_ast.specs.Identifiers.{anonymous}
@@ -35,6 +35,10 @@ with_stmt place before stmt decl f = record f {
 -- the function has the block and the place there
 abbrev pub HasPlace : Function → ℕ → ℕ → Type 0
 HasPlace f place before = (block : Block) × (slice_get f.blocks place ≡ Some block) × (before ≤ length block.stmts)
+
+-- the names but for one
+abbrev pub names_but : ℕ → List ℕ → List ℕ
+names_but x names = filter (λ y. not (y == x)) names
 
 -- The statement may be inserted: the place is there, its name is above all others and declared as an anonymous name of a type that its right side has, each
 -- operand holds and may be read at the place, and the function stays within the bounds of the machine
