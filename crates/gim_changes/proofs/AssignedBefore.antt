@@ -85,7 +85,7 @@ module _ (flow : List Stretch) (initial : ℕ → Bool) (reads : ℕ → List �
       let before : (other : List ℕ) → Path flow n (z ∷ left) other → IsAssignedAfter initial x other =
       λ other earlier. ⊎_elim (λ now. absurd (apart now)) (λ assigned. assigned) (always (z ∷ other) (item n z left other earlier)) in
       inr (
-      λ supports. no_circle x z (λ is. initial_alone x z is supports) (support_assigned x z supports) n left before (suc (length past)) past (omega arith) path,
-      fresh_where_assigned x n (z ∷ left) past path before,
+        λ supports. no_circle x z (λ is. initial_alone x z is supports) (support_assigned x z supports) n left before (suc (length past)) past (omega arith) path,
+        fresh_where_assigned x n (z ∷ left) past path before,
       ))
       (cases_eq z x)

@@ -79,7 +79,6 @@ module _ (change_phi : Phi → Phi) (change_stmt : Stmt → Stmt) (end_of : Bloc
 
   -- ---- what paths see
 
-
   same_stretch : (b : Block) → stretch_of (changed b) ≡ stretch_of b
   same_stretch b =
       ap (λ names. record { number = b.number; assigns = names ++ map stmt_name (map change_stmt b.stmts); targets = targets_of (end_of b) }) (unseen phi_name change_phi same_phi b.phis)

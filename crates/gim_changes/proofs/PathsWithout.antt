@@ -37,7 +37,6 @@ filtered_onto p (z ∷ front) past = filtered_onto p front (z ∷ past) ∙ by (
     by true = refl
     by false = refl
 
-
 abbrev first_or : ℕ → List ℕ → ℕ
 first_or d [] = d
 first_or d (z ∷ zs) = z
@@ -185,10 +184,11 @@ module _ (x : ℕ) where
       let same : low.home ≡ point.home = same_Some low.home point.home (sym low.at ∙ point.at) in
       let assigns : low.home.assigns ≡ point.front ++ left = ap (λ (s : Stretch). s.assigns) same ∙ point.is in
       let fronts : low.front ≡ filter (other x) point.front =
-      front_is low.front (filter (other x) point.front) (filter (other x) left) (sym low.is ∙ (ap (filter (other x)) assigns ∙ filter-append (other x) point.front left)) in
-      (onto point.front low.before,
-      walk flow n point.front left low.before (subst (λ l. Path flow n l low.before) assigns low.path),
-      filtered_onto (other x) point.front low.before ∙ (ap (λ l. onto l (filter (other x) low.before)) (sym fronts) ∙ sym low.past_is))
+      front_is low.front (filter (other x) point.front) (filter (other x) left) (sym low.is ∙ (ap (filter (other x)) assigns ∙ filter-append (other x) point.front left)) in (
+        onto point.front low.before,
+        walk flow n point.front left low.before (subst (λ l. Path flow n l low.before) assigns low.path),
+        filtered_onto (other x) point.front low.before ∙ (ap (λ l. onto l (filter (other x) low.before)) (sym fronts) ∙ sym low.past_is),
+      )
 
   pub lifted_to_end : (flow : List Stretch) (n : ℕ) (past : List ℕ) → Path (map (less x) flow) n [] past → (whole : List ℕ) × Path flow n [] whole × (filter (other x) whole ≡ past)
   lifted_to_end flow n past path =

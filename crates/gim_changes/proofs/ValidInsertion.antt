@@ -153,27 +153,35 @@ module _ (place before : ℕ) (stmt : Stmt) (decl : Decl) (f : Function) (valid 
       let nothing : filter (other stmt.name) left ≡ [] = ap (filter (other stmt.name)) what in
       ⊎_elim
       (λ old. inl (c, old, by_end name at nothing))
-      (λ (new : insert_in_block before stmt may.home ≡ c). inl (may.home, home_is,
-      by_end (subst (λ (b : Block). IsMember y (names_among (operands_of_end b.end))) (sym new) name) (at ∙ ap (λ (b : Block). b.number) (sym new)) nothing))
+      (λ (new : insert_in_block before stmt may.home ≡ c). inl (
+        may.home,
+        home_is,
+        by_end (subst (λ (b : Block). IsMember y (names_among (operands_of_end b.end))) (sym new) name) (at ∙ ap (λ (b : Block). b.number) (sym new)) nothing,
+      ))
       (member_changed place (insert_in_block before stmt) f.blocks may.home may.at c one)
   read_before c one y n left (by_stmt front s rest is name at what) = ⊎_elim
       (λ (same : s.name ≡ stmt.name).
       let new = the_new_stmt c one front s rest is same in
-      inr (subst (λ (t : Stmt). IsMember y (names_among (operands_of_stmt t))) (sym new.1) name,
-      at ∙ ap (λ (b : Block). b.number) (sym new.0),
-      ap (filter (other stmt.name)) (what ∙ ap (λ z. z ∷ map stmt_name rest) same)
-      ∙ (ap (λ b. cond (not b) (stmt.name ∷ filter (other stmt.name) (map stmt_name rest)) (filter (other stmt.name) (map stmt_name rest))) (eq-eqb stmt.name stmt.name refl)
-      ∙ (ap (λ l. filter (other stmt.name) (map stmt_name l)) (sym new.2)
-      ∙ unfiltered stmt.name (drop before may.home.stmts) (λ t mine its. old_stmt may.home home_is t
-      (subst (IsMember t) (take-append-drop before may.home.stmts) (member_right t (take before may.home.stmts) (drop before may.home.stmts) mine)) its)))))
+      inr (
+        subst (λ (t : Stmt). IsMember y (names_among (operands_of_stmt t))) (sym new.1) name,
+        at ∙ ap (λ (b : Block). b.number) (sym new.0),
+        ap (filter (other stmt.name)) (what ∙ ap (λ z. z ∷ map stmt_name rest) same)
+            ∙ (ap (λ b. cond (not b) (stmt.name ∷ filter (other stmt.name) (map stmt_name rest)) (filter (other stmt.name) (map stmt_name rest))) (eq-eqb stmt.name stmt.name refl)
+            ∙ (ap (λ l. filter (other stmt.name) (map stmt_name l)) (sym new.2)
+            ∙ unfiltered stmt.name (drop before may.home.stmts) (λ t mine its. old_stmt may.home home_is t
+            (subst (IsMember t) (take-append-drop before may.home.stmts) (member_right t (take before may.home.stmts) (drop before may.home.stmts) mine)) its))),
+      ))
       (λ apart.
       let old = block_without c one in
       let stays : stmt_stays stmt.name s ≡ true = ap not (false_from_ne_true (eqb s.name stmt.name) (λ same. apart (eqb-true s.name stmt.name same))) in
-      inl (without_in_block stmt.name c, old,
-      by_stmt (filter (stmt_stays stmt.name) front) s (filter (stmt_stays stmt.name) rest)
-      (ap (filter (stmt_stays stmt.name)) is ∙ (filter-append (stmt_stays stmt.name) front (s ∷ rest)
-      ∙ ap (λ b. filter (stmt_stays stmt.name) front ++ cond b (s ∷ filter (stmt_stays stmt.name) rest) (filter (stmt_stays stmt.name) rest)) stays))
-      name at (ap (filter (other stmt.name)) what ∙ sym (left_before stmt.name s (filter (stmt_stays stmt.name) rest) rest stays refl))))
+      inl (
+        without_in_block stmt.name c,
+        old,
+        by_stmt (filter (stmt_stays stmt.name) front) s (filter (stmt_stays stmt.name) rest)
+            (ap (filter (stmt_stays stmt.name)) is ∙ (filter-append (stmt_stays stmt.name) front (s ∷ rest)
+            ∙ ap (λ b. filter (stmt_stays stmt.name) front ++ cond b (s ∷ filter (stmt_stays stmt.name) rest) (filter (stmt_stays stmt.name) rest)) stays))
+            name at (ap (filter (other stmt.name)) what ∙ sym (left_before stmt.name s (filter (stmt_stays stmt.name) rest) rest stays refl)),
+      ))
       (cases_eq s.name stmt.name)
 
   all_assigned : AreUsesAssigned g

@@ -80,14 +80,26 @@ module _ (x : ℕ) where
       let few_phis = flat_map operands_of_phi (filter (phi_stays x) b.phis) in
       let few_stmts = flat_map operands_of_stmt (filter (stmt_stays x) b.stmts) in
       let ends = operands_of_end b.end in
-      omega (arith, fewer_of operands_of_phi (phi_stays x) b.phis, fewer_of operands_of_stmt (stmt_stays x) b.stmts,
-      length-append (phis ++ stmts) ends, length-append phis stmts, length-append (few_phis ++ few_stmts) ends, length-append few_phis few_stmts)
+      omega (
+        arith,
+        fewer_of operands_of_phi (phi_stays x) b.phis,
+        fewer_of operands_of_stmt (stmt_stays x) b.stmts,
+        length-append (phis ++ stmts) ends,
+        length-append phis stmts,
+        length-append (few_phis ++ few_stmts) ends,
+        length-append few_phis few_stmts,
+      )
 
   fewer_in_blocks : (bs : List Block) → length (flat_map operands_of_block (map (without_in_block x) bs)) ≤ length (flat_map operands_of_block bs)
   fewer_in_blocks [] = omega arith
   fewer_in_blocks (b ∷ bs) =
-      omega (arith, fewer_in_block b, fewer_in_blocks bs, length-append (operands_of_block b) (flat_map operands_of_block bs),
-      length-append (operands_of_block (without_in_block x b)) (flat_map operands_of_block (map (without_in_block x) bs)))
+      omega (
+        arith,
+        fewer_in_block b,
+        fewer_in_blocks bs,
+        length-append (operands_of_block b) (flat_map operands_of_block bs),
+        length-append (operands_of_block (without_in_block x b)) (flat_map operands_of_block (map (without_in_block x) bs)),
+      )
 
   holds_without : (f : Function) (b : Block) → BlockHolds f b → BlockHolds f (without_in_block x b)
   holds_without f b holds =
