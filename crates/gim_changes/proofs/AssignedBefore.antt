@@ -63,7 +63,7 @@ module _ (flow : List Stretch) (initial : ℕ → Bool) (reads : ℕ → List �
       assigned_since flow initial w z (λ is. initial_alone w z is rest) (support_assigned w z rest) n (x ∷ left) past path (read n x w left past path reads_it)
 
   -- two names can't each be assigned before the other
-  no_circle : (x z : ℕ) → (IsTrue (initial x) → ⊥) → ((n : ℕ) (left past : List ℕ) → Path flow n (x ∷ left) past → IsAssignedAfter initial z past) →
+  pub no_circle : (x z : ℕ) → (IsTrue (initial x) → ⊥) → ((n : ℕ) (left past : List ℕ) → Path flow n (x ∷ left) past → IsAssignedAfter initial z past) →
       (n : ℕ) (left : List ℕ) → ((past : List ℕ) → Path flow n (z ∷ left) past → IsAssignedAfter initial x past) →
       (long : ℕ) (past : List ℕ) → length past < long → Path flow n (z ∷ left) past → ⊥
   no_circle x z plain_x needs n left leads zero past within path = omega arith

@@ -17,6 +17,7 @@ pub mod Members
 pub mod NamesRead
 pub mod NamesUsed
 pub mod PathsWithout
+pub mod PhiArguments
 pub mod PlaceCounts
 pub mod PlaceItems
 pub mod Points

@@ -1,9 +1,12 @@
 //! Where names are readable in a valid function, and which names may be read in place of another.
-ghost use Rattle.std.specs.Prelude.{◌≡◌, ◌↔◌, ◌++◌, ◌∷◌, ℕ, IsTrue, Some, List, slice_get};
-ghost use Rattle.std.specs.List.{AllByRecursion};
+ghost use Rattle.std.specs.Prelude.{◌≡◌, ◌↔◌, ◌++◌, ◌∷◌, ◌||◌, ℕ, IsTrue, Some, List, slice_get};
+ghost use Rattle.std.specs.List.{AllByRecursion, list_all};
+ghost use Rattle.pm_wide.specs.declared.operand.Operand.{Operand};
 ghost use Rattle.gim_ast.specs.declared.function.Block.{Block};
 ghost use Rattle.gim_ast.specs.declared.function.Function.{Function};
-ghost use Rattle.gim_ast.specs.Functions.{assigned_in, right_of};
+ghost use Rattle.gim_ast.specs.declared.function.Phi.{Phi};
+ghost use Rattle.gim_ast.specs.Functions.{assigned_in, is_name, right_of};
+ghost use Rattle.gim_ast.specs.Paths.{flow_of, Path};
 ghost use Rattle.gim_ast.specs.Readable.{read_for, Supports, uses_in, IsReadable, IsValid};
 ghost use Rattle.gim_ast.specs.WellFormed.{is_assigned, IsWellFormed};
 ghost use Rattle.gim_changes.specs.Trimming.{stands_in};
@@ -41,6 +44,20 @@ pub fn support_comes_before()
 pub fn same_right_side_comes_before()
     ensures { (f : Function) (x y : ℕ) → IsValid f → right_of f y ≡ right_of f x → (y ≡ x → ⊥) → IsTrue (stands_in f y) →
         ((n : ℕ) (left : List ℕ) → IsReadable f y n (x ∷ left)) → ComesBefore f y x }
+{}
+
+/// So does the only name among the arguments of a phi, but for the phi's own, where the phi isn't in its support.
+pub fn argument_comes_before_its_phi()
+    ensures { (f : Function) (place k : ℕ) (home : Block) (phi : Phi) (y : ℕ) → IsValid f → slice_get f.blocks place ≡ Some home →
+        slice_get home.phis k ≡ Some phi → IsTrue (list_all (λ (arg : ℕ × Operand). is_name y arg.1 || is_name phi.name arg.1) phi.args) →
+        IsTrue (stands_in f y) → (y ≡ phi.name → ⊥) → (Supports (read_for f) y phi.name → ⊥) → ComesBefore f y phi.name }
+{}
+
+/// That holds where some path assigns the phi, or any other name: then it is in the support of no name that is
+/// readable wherever it is assigned.
+pub fn what_is_reached_is_apart()
+    ensures { (f : Function) (x y n : ℕ) (left past : List ℕ) → IsValid f → Path (flow_of f) n (x ∷ left) past →
+        ((m : ℕ) (rest : List ℕ) → IsReadable f y m (x ∷ rest)) → Supports (read_for f) y x → ⊥ }
 {}
 
 /// A name is assigned at one point: what is readable there is readable wherever the name is assigned.
