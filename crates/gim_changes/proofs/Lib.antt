@@ -3,6 +3,7 @@ pub mod AnonymousNames
 pub mod AssignedBefore
 pub mod ChangedBlocks
 pub mod ComesBefore
+pub mod Copies
 pub mod DistinctNumbers
 pub mod FilteredLists
 pub mod FlowKept

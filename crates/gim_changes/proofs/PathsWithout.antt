@@ -7,10 +7,9 @@ use Rattle.std.proofs.lemmas.List.Elements.{filter-append}
 use Rattle.gim_ast.specs.WellFormed.{is_among}
 use Rattle.gim_ast.specs.Paths.{Stretch, entry_of, stretch_at, Path, enter, item, jump}
 use Rattle.gim_changes.specs.Validity.{IsAssignedAfter}
+use Rattle.gim_changes.proofs.Members.{first_or, rest_of}
+use Rattle.gim_changes.proofs.Unused.{other}
 use Rattle.gim_changes.proofs.Points.{IsPoint, number_found, entry_found}
-
-abbrev pub other : ℕ → ℕ → Bool
-other x y = not (eqb y x)
 
 -- a block without the assignments of x
 abbrev pub less : ℕ → Stretch → Stretch
@@ -36,14 +35,6 @@ filtered_onto p (z ∷ front) past = filtered_onto p front (z ∷ past) ∙ by (
     by : (b : Bool) → onto (filter p front) (cond b (z ∷ filter p past) (filter p past)) ≡ onto (cond b (z ∷ filter p front) (filter p front)) (filter p past)
     by true = refl
     by false = refl
-
-abbrev first_or : ℕ → List ℕ → ℕ
-first_or d [] = d
-first_or d (z ∷ zs) = z
-
-abbrev rest_of : List ℕ → List ℕ
-rest_of [] = []
-rest_of (z ∷ zs) = zs
 
 no_longer : (v : ℕ) (us vs : List ℕ) → vs ≡ v ∷ (us ++ vs) → ⊥
 no_longer v us vs e =

@@ -19,8 +19,9 @@ use Rattle.gim_changes.specs.Insertion.{insert_in_block, row_for, with_stmt, May
 use Rattle.gim_changes.specs.Removal.{stmt_stays, without, without_in_block}
 use Rattle.gim_changes.specs.Trimming.{stands_in, is_empty_text, row_stays}
 use Rattle.gim_changes.specs.Validity.{IsAssignedAfter}
-use Rattle.gim_changes.proofs.Members.{IsMember, all_members, all_from_members, slice_member, member_right, member_cases, mapped_member, member_middle, part_member}
-use Rattle.gim_changes.proofs.PathsWithout.{other, path_without, assigned_with_it}
+use Rattle.gim_changes.proofs.Members.{first_or, rest_of, IsMember, all_members, all_from_members, slice_member, member_right, member_cases, mapped_member, member_middle, part_member}
+use Rattle.gim_changes.proofs.Unused.{other}
+use Rattle.gim_changes.proofs.PathsWithout.{path_without, assigned_with_it}
 use Rattle.gim_changes.proofs.AssignedBefore.{assigned_where_fresh}
 use Rattle.gim_changes.proofs.NamesRead.{IsRead, IsReadIn, by_phi, by_stmt, by_end}
 use Rattle.gim_changes.proofs.NamesUsed.{named, used_stands, assigned_stands}
@@ -36,23 +37,15 @@ use Rattle.gim_changes.proofs.GrownRules.{assigned_still, new_good, row_more, re
 
 -- ---- where a statement of one name stands
 
-abbrev first_stmt : Stmt → List Stmt → Stmt
-first_stmt d [] = d
-first_stmt d (s ∷ stmts) = s
-
-abbrev rest_of_stmts : List Stmt → List Stmt
-rest_of_stmts [] = []
-rest_of_stmts (s ∷ stmts) = stmts
-
 -- where no other statement assigns its name, a statement stands at one place
 one_place : (stmt : Stmt) (front rest us : List Stmt) (s : Stmt) (vs : List Stmt) → ((t : Stmt) → IsMember t (front ++ rest) → t.name ≡ stmt.name → ⊥) → s.name ≡ stmt.name →
     front ++ stmt ∷ rest ≡ us ++ s ∷ vs → (stmt ≡ s) × (rest ≡ vs)
-one_place stmt [] rest [] s vs none name e = (ap (first_stmt stmt) e, ap rest_of_stmts e)
+one_place stmt [] rest [] s vs none name e = (ap (first_or stmt) e, ap rest_of e)
 one_place stmt [] rest (u ∷ us) s vs none name e =
-    absurd (none s (subst (IsMember s) (sym (ap rest_of_stmts e)) (member_middle s us vs)) name)
+    absurd (none s (subst (IsMember s) (sym (ap rest_of e)) (member_middle s us vs)) name)
 one_place stmt (t ∷ front) rest [] s vs none name e =
-    absurd (none t (inl refl) (ap (λ (w : Stmt). w.name) (ap (first_stmt stmt) e) ∙ name))
-one_place stmt (t ∷ front) rest (u ∷ us) s vs none name e = one_place stmt front rest us s vs (λ w one. none w (inr one)) name (ap rest_of_stmts e)
+    absurd (none t (inl refl) (ap (λ (w : Stmt). w.name) (ap (first_or stmt) e) ∙ name))
+one_place stmt (t ∷ front) rest (u ∷ us) s vs none name e = one_place stmt front rest us s vs (λ w one. none w (inr one)) name (ap rest_of e)
 
 -- the names of statements none of which assigns x
 unfiltered : (x : ℕ) (stmts : List Stmt) → ((t : Stmt) → IsMember t stmts → t.name ≡ x → ⊥) → filter (other x) (map stmt_name stmts) ≡ map stmt_name stmts

@@ -1,5 +1,5 @@
 //! Which changes keep a function valid, and under which conditions.
-ghost use Rattle.std.specs.Prelude.{◌≡◌, ℕ, false, IsTrue, []};
+ghost use Rattle.std.specs.Prelude.{◌≡◌, ℕ, false, IsTrue, Some, []};
 ghost use Rattle.std.specs.List.{AllByRecursion, list_all};
 ghost use Rattle.pm_ops.specs.Codes.{is_comparison_code};
 ghost use Rattle.pm_ops.specs.declared.code.Code.{Code};
@@ -7,7 +7,8 @@ ghost use Rattle.pm_wide.specs.Types.{same_type};
 ghost use Rattle.pm_wide.specs.declared.operand.Operand.{Operand};
 ghost use Rattle.gim_ast.specs.declared.function.Function.{Function};
 ghost use Rattle.gim_ast.specs.declared.function.Rhs.{Rhs};
-ghost use Rattle.gim_ast.specs.Functions.{is_used, operands_of_rhs};
+ghost use Rattle.gim_ast.specs.declared.function.Rhs.TheVariants.{Copy};
+ghost use Rattle.gim_ast.specs.Functions.{is_used, operands_of_rhs, right_of};
 ghost use Rattle.gim_ast.specs.Readable.{IsValid};
 ghost use Rattle.gim_ast.specs.WellFormed.{bounds_hold, is_assigned, operand_holds, stmt_fits, type_of, IsWellFormed};
 ghost use Rattle.gim_changes.specs.Removal.{without};
@@ -34,6 +35,11 @@ pub fn tidying_keeps_validity()
 pub fn substitution_keeps_validity()
     ensures { (f : Function) (x : ℕ) (by : Operand) → IsValid f → IsTrue (is_assigned f x) → IsTrue (operand_holds f by) →
         IsTrue (has_type_of f x by) → OperandComesBefore f by x → IsValid (put_in_all x by f) }
+{}
+
+/// So a copy can go: its operand is put for it, and what is unused goes.
+pub fn copies_can_go()
+    ensures { (f : Function) (x : ℕ) (a : Operand) → IsValid f → right_of f x ≡ Some (Copy a) → IsValid (tidied (put_in_all x a f)) }
 {}
 
 /// A name can get another right side of its type each of whose operands comes before it, as long as the function
