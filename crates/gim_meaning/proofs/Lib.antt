@@ -1,0 +1,13 @@
+mod Agreement
+mod KeptInARow
+mod ListSearch
+mod Lockstep
+mod NewRightSides
+mod OperandsStand
+mod ReadableValues
+mod Reached
+mod RemovalRuns
+mod RightSides
+mod SubstitutionRuns
+mod TrimmingRuns
+mod UnchangedItems

@@ -1,0 +1,4 @@
+pub mod KeptRuns
+pub mod PresentValues
+pub mod ReachedPoints
+pub mod SameReading
