@@ -4,10 +4,12 @@ mod ListSearch
 mod Lockstep
 mod NewRightSides
 mod OperandsStand
+mod PossibleWords
 mod ReadableValues
 mod Reached
 mod RemovalRuns
 mod RightSides
 mod SubstitutionRuns
 mod TrimmingRuns
+mod TypedWords
 mod UnchangedItems

@@ -1,19 +1,32 @@
 //! What holds where runs come, and which changes keep every defined run. Each call here does nothing: its contract is a
 //! law, which its check proves.
-ghost use Rattle.std.specs.Prelude.{◌≡◌, ℕ, false, List};
+ghost use Rattle.std.specs.Prelude.{◌≡◌, ℕ, false, List, map};
 ghost use Rattle.std.specs.List.{AllByRecursion};
 ghost use Rattle.pm_ops.specs.declared.code.Code.{Code};
+ghost use Rattle.pm_wide.specs.Types.{Word};
 ghost use Rattle.pm_wide.specs.declared.operand.Operand.{Operand};
+ghost use Rattle.gim_ast.specs.declared.function.Block.{Block};
 ghost use Rattle.gim_ast.specs.declared.function.Function.{Function};
 ghost use Rattle.gim_ast.specs.declared.function.Rhs.{Rhs};
-ghost use Rattle.gim_ast.specs.Functions.{is_used};
+ghost use Rattle.gim_ast.specs.declared.function.Stmt.{Stmt};
+ghost use Rattle.gim_ast.specs.Functions.{is_used, stmt_name};
 ghost use Rattle.gim_ast.specs.Readable.{uses_in};
+ghost use Rattle.gim_ast.specs.Runs.{Env};
 ghost use Rattle.gim_ast.specs.WellFormed.{IsWellFormed};
 ghost use Rattle.gim_changes.specs.Removal.{without, pruned};
 ghost use Rattle.gim_changes.specs.Substitution.{put_in_all, with_rhs, with_condition};
 ghost use Rattle.gim_changes.specs.Trimming.{trimmed, tidied};
-ghost use Rattle.gim_meaning.specs.KeptRuns.{KeepsDefinedRuns};
+ghost use Rattle.gim_meaning.specs.KeptRuns.{AreArgumentWords, KeepsDefinedRuns};
+ghost use Rattle.gim_meaning.specs.PresentValues.{ArePossible};
+ghost use Rattle.gim_meaning.specs.ReachedPoints.{Inside, Reaches};
 ghost use Rattle.gim_meaning.specs.SameReading.{ReadsAlike, GivesAlike, DecidesAlike};
+
+/// Whenever a run of a well-formed function comes to a point, each name has a word of its type, and each name that is readable
+/// there has the value that its operation gives on the present words of its operands.
+pub fn readable_names_have_their_values()
+    ensures { (f : Function) (args : List Word) (block : Block) (stmts : List Stmt) (env : Env) → IsWellFormed f → AreArgumentWords f args →
+        Reaches f args (Inside block stmts env) → ArePossible f block.number (map stmt_name stmts) env }
+{}
 
 /// A function keeps its own runs, and what two changes keep one after the other, both together keep.
 pub fn runs_are_kept_in_a_row()
