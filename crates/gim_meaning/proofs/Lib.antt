@@ -3,6 +3,7 @@ mod KeptInARow
 mod ListSearch
 mod Lockstep
 mod NewRightSides
+mod OnePlace
 mod OperandsStand
 mod PossibleWords
 mod ReadableValues

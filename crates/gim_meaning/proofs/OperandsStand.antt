@@ -16,7 +16,7 @@ use Rattle.gim_run.specs.Blocks.{phi_pair}
 use Rattle.gim_ast.proofs.ReadableLemmas.{all_left, all_right}
 use Rattle.gim_meaning.proofs.Agreement.{AgreeOn, OperandStands, AllStand, agree_assigned_each, same_phi_word}
 use Rattle.gim_meaning.proofs.ListSearch.{parts_of_found, parts_in_middle}
-use Rattle.gim_meaning.proofs.Reached.{Lies}
+use Rattle.gim_meaning.specs.ReachedPoints.{Lies}
 
 abbrev pub Any : ℕ → Type 0
 Any x = ⊤

@@ -10,7 +10,7 @@ use Rattle.gim_ast.specs.declared.function.Block.{Block}
 use Rattle.gim_ast.specs.declared.function.Stmt.{Stmt}
 use Rattle.gim_ast.specs.Functions.{block_of}
 use Rattle.gim_ast.specs.Runs.{Env, assign, rhs_value, name_type, pass_stmts, Passage, On, Stuck, Place, lead_of, To, start_of}
-use Rattle.gim_meaning.specs.ReachedPoints.{Spot, Between, Inside, Reaches, start, enter, pass, leave}
+use Rattle.gim_meaning.specs.ReachedPoints.{Spot, Between, Inside, Reaches, start, enter, pass, leave, Lies}
 use Rattle.gim_meaning.proofs.ListSearch.{found_passes}
 
 pub number_of_found : (f : Function) (n : ℕ) (block : Block) → block_of f n ≡ Some block → block.number ≡ n
@@ -19,12 +19,6 @@ number_of_found f n block is = eqb-true block.number n (found_passes (λ (b : Bl
 
 pub found_by_number : (f : Function) (n : ℕ) (block : Block) → block_of f n ≡ Some block → block_of f block.number ≡ Some block
 found_by_number f n block is = subst (λ m. block_of f m ≡ Some block) (sym (number_of_found f n block is)) is
-
--- inside of a block that the number finds, before its last statements
-pub record Lies (f : Function) (block : Block) (stmts : List Stmt) : Type 0 where
-  pub found : block_of f block.number ≡ Some block
-  pub front : List Stmt
-  pub is : block.stmts ≡ front ++ stmts
 
 abbrev LiesThere : Function → Spot → Type 0
 LiesThere f (Between place) = ⊤

@@ -22,12 +22,12 @@ use Rattle.gim_ast.specs.Paths.{Stretch, stretch_of, flow_of, stretch_at, Path, 
 use Rattle.gim_ast.specs.Paths as paths
 use Rattle.gim_ast.specs.Readable.{names_among, read_for, Supports, operand, Fresh, is_initial, IsReadable, IsValid}
 use Rattle.gim_ast.specs.Runs.{Env, assign, assign_each, rhs_value, name_type, phi_word, after_phis, start_env, Lead, To, Out, lead_of, holds, Place, start_of, entry_of}
-use Rattle.gim_meaning.specs.ReachedPoints.{Spot, Between, Inside, Reaches}
+use Rattle.gim_meaning.specs.ReachedPoints.{Spot, Between, Inside, Reaches, Lies}
 use Rattle.gim_meaning.specs.ReachedPoints as points
 use Rattle.gim_meaning.specs.PresentValues.{HasItsValue}
 use Rattle.gim_meaning.proofs.Agreement.{AgreeOn, AllStand, OperandStands, same_value}
 use Rattle.gim_meaning.proofs.ListSearch.{first_of_changed}
-use Rattle.gim_meaning.proofs.Reached.{lies, Lies, found_by_number, number_of_found}
+use Rattle.gim_meaning.proofs.Reached.{lies, found_by_number, number_of_found}
 use Rattle.gim_meaning.proofs.RightSides.{right_at, no_right_at_phis, HasNoRight, no_right_of_initial}
 
 -- ---- an assignment of another name

@@ -18,7 +18,7 @@ use Rattle.gim_ast.specs.Functions.{first_where, phi_name, stmt_name, assigned_i
 use Rattle.gim_ast.specs.WellFormed.{IsWellFormed, all_distinct, is_assigned, same_text, base_holds, row_stands, names_hold}
 use Rattle.gim_ast.specs.Readable.{is_initial}
 use Rattle.gim_meaning.proofs.ListSearch.{first_of_front, first_behind, found_passes, all_of_found}
-use Rattle.gim_meaning.proofs.Reached.{Lies}
+use Rattle.gim_meaning.specs.ReachedPoints.{Lies}
 
 -- ---- lists of distinct names
 
@@ -29,7 +29,7 @@ Has y xs = list_any (eqb y) xs ≡ true
 abbrev HasNot : ℕ → List ℕ → Type 0
 HasNot y xs = list_any (eqb y) xs ≡ false
 
-abbrev AreDistinct : List ℕ → Type 0
+abbrev pub AreDistinct : List ℕ → Type 0
 AreDistinct xs = all_distinct eqb xs ≡ true
 
 pub in_front : (y : ℕ) (xs ys : List ℕ) → Has y xs → Has y (xs ++ ys)
@@ -39,7 +39,7 @@ pub in_back : (y : ℕ) (xs ys : List ℕ) → Has y ys → Has y (xs ++ ys)
 in_back y xs ys h = list_any-append (eqb y) xs ys ∙ or_right (list_any (eqb y) xs) (list_any (eqb y) ys) h
 
 -- a name of the front doesn't stand behind it
-not_behind : (y : ℕ) (xs ys : List ℕ) → AreDistinct (xs ++ ys) → Has y xs → HasNot y ys
+pub not_behind : (y : ℕ) (xs ys : List ℕ) → AreDistinct (xs ++ ys) → Has y xs → HasNot y ys
 not_behind y [] ys h e = absurd (both_ways false refl e)
 not_behind y (x ∷ xs) ys h e =
     let parts = and_parts _ _ h in
@@ -58,7 +58,7 @@ not_before y xs ys h e = by (list_any (eqb y) xs) refl
     by true is = absurd (both_ways (list_any (eqb y) ys) (not_behind y xs ys h is) e)
     by false is = refl
 
-back_distinct : (xs ys : List ℕ) → AreDistinct (xs ++ ys) → AreDistinct ys
+pub back_distinct : (xs ys : List ℕ) → AreDistinct (xs ++ ys) → AreDistinct ys
 back_distinct [] ys h = h
 back_distinct (x ∷ xs) ys h = back_distinct xs ys ((and_parts _ _ h).1)
 
@@ -116,7 +116,7 @@ no_stmt_among y (block ∷ blocks) h =
     first_behind (assigns y) block.stmts (flat_map stmts_in blocks) (no_stmt_in y block parts.0) ∙ no_stmt_among y blocks parts.1
 
 -- what a block that is found assigns is assigned
-assigned_in_found : (p : Block → Bool) (y : ℕ) (blocks : List Block) (block : Block) → first_where p blocks ≡ Some block → Has y (assigned_in block) → Has y (flat_map assigned_in blocks)
+pub assigned_in_found : (p : Block → Bool) (y : ℕ) (blocks : List Block) (block : Block) → first_where p blocks ≡ Some block → Has y (assigned_in block) → Has y (flat_map assigned_in blocks)
 assigned_in_found p y [] block is h = absurd (none-some block is)
 assigned_in_found p y (c ∷ blocks) block is h = by (p c) is (λ e. assigned_in_found p y blocks block e h)
   where
@@ -159,7 +159,7 @@ pub has_stmt : (front : List Stmt) (stmt : Stmt) (rest : List Stmt) → Has stmt
 has_stmt [] stmt rest = or_left _ _ (eq-eqb stmt.name stmt.name refl)
 has_stmt (s ∷ front) stmt rest = or_right _ _ (has_stmt front stmt rest)
 
-block_distinct : (p : Block → Bool) (blocks : List Block) (block : Block) → first_where p blocks ≡ Some block → AreDistinct (flat_map assigned_in blocks) → AreDistinct (assigned_in block)
+pub block_distinct : (p : Block → Bool) (blocks : List Block) (block : Block) → first_where p blocks ≡ Some block → AreDistinct (flat_map assigned_in blocks) → AreDistinct (assigned_in block)
 block_distinct p [] block is distinct = absurd (none-some block is)
 block_distinct p (c ∷ blocks) block is distinct =
     by (p c) is (front_distinct (assigned_in c) (flat_map assigned_in blocks) distinct) (λ e. block_distinct p blocks block e (back_distinct (assigned_in c) (flat_map assigned_in blocks) distinct))

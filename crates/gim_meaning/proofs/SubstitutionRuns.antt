@@ -25,14 +25,14 @@ use Rattle.gim_ast.specs.Runs.{Env, assign, assign_each, start_env, word_of_oper
 use Rattle.gim_run.specs.Blocks.{phi_pair}
 use Rattle.gim_changes.specs.Substitution.{put, put_in_rhs, put_in_end, put_in_arg, put_in_phi, put_in_stmt, put_in_block, put_in_all}
 use Rattle.gim_ast.proofs.ReadableLemmas.{all_left, all_right}
-use Rattle.gim_meaning.specs.ReachedPoints.{Spot, Between, Inside, Reaches, start, enter, pass, leave}
+use Rattle.gim_meaning.specs.ReachedPoints.{Spot, Between, Inside, Reaches, start, enter, pass, leave, Lies}
 use Rattle.gim_meaning.specs.KeptRuns.{AreArgumentWords, KeepsDefinedRuns}
 use Rattle.gim_meaning.specs.SameReading.{ReadsAlike}
 use Rattle.gim_meaning.proofs.Agreement.{AgreeOn, agree_assigned, agree_assigned_each}
 use Rattle.gim_meaning.proofs.ListSearch.{parts_of_found}
 use Rattle.gim_meaning.proofs.Lockstep.{PassesAlike, GoesAlike, alike_keeps_runs, passes_alike, passes_stmt}
 use Rattle.gim_meaning.proofs.OperandsStand.{Any, TypedAlike}
-use Rattle.gim_meaning.proofs.Reached.{Lies, lies}
+use Rattle.gim_meaning.proofs.Reached.{lies}
 
 -- ---- from where a run is on its way
 
@@ -158,7 +158,7 @@ module _ (P : Use → Type 0) where
       let front = all_left P (phis ++ stmts) ends all in
       (all_left P phis stmts front, all_right P phis stmts front, all_right P (phis ++ stmts) ends all)
 
-each_of : {X : Type 0} (P Q : X → Type 0) → ((a : X) → P a → Q a) → (xs : List X) → AllByRecursion P xs → AllByRecursion Q xs
+pub each_of : {X : Type 0} (P Q : X → Type 0) → ((a : X) → P a → Q a) → (xs : List X) → AllByRecursion P xs → AllByRecursion Q xs
 each_of P Q tells [] all = tt
 each_of P Q tells (a ∷ xs) all = (tells a all.0, each_of P Q tells xs all.1)
 

@@ -19,7 +19,8 @@ use Rattle.gim_meaning.proofs.Agreement.{AgreeOn, AllStand, same_lead}
 use Rattle.gim_meaning.proofs.KeptInARow.{keeps_through}
 use Rattle.gim_meaning.proofs.Lockstep.{GoesAlike, alike_keeps_runs}
 use Rattle.gim_meaning.proofs.OperandsStand.{used_stand, weaker_stand, phis_stand, end_stands, TypedAlike, PhiTyped, same_phis}
-use Rattle.gim_meaning.proofs.Reached.{Lies, lies}
+use Rattle.gim_meaning.specs.ReachedPoints.{Lies}
+use Rattle.gim_meaning.proofs.Reached.{lies}
 use Rattle.gim_meaning.proofs.RemovalRuns.{pruning_keeps_runs}
 use Rattle.gim_meaning.proofs.RightSides.{Has, in_front, in_back, has_stmt, is_assigned_in}
 use Rattle.gim_meaning.proofs.UnchangedItems.{same_stmts}

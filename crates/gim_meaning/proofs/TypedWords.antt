@@ -33,9 +33,9 @@ use Rattle.gim_run.proofs.PhiLemmas.{block_phis, block_stmts}
 use Rattle.gim_run.proofs.HoldLemmas.{blocks_hold}
 use Rattle.gim_meaning.specs.KeptRuns.{AreArgumentWords}
 use Rattle.gim_meaning.specs.PresentValues.{AreTyped}
-use Rattle.gim_meaning.specs.ReachedPoints.{Spot, Between, Inside, Reaches, start, enter, pass, leave}
+use Rattle.gim_meaning.specs.ReachedPoints.{Spot, Between, Inside, Reaches, start, enter, pass, leave, Lies}
 use Rattle.gim_meaning.proofs.ListSearch.{found_passes, all_of_found, all_in_middle}
-use Rattle.gim_meaning.proofs.Reached.{Lies, lies}
+use Rattle.gim_meaning.proofs.Reached.{lies}
 
 abbrev pub IsTypedWord : Ty → Word → Type 0
 IsTypedWord t w = (w.ty ≡ t) × IsWord w

@@ -6,11 +6,11 @@ use Rattle.gim_ast.specs.declared.function.Block.{Block}
 use Rattle.gim_ast.specs.declared.function.Stmt.{Stmt}
 use Rattle.gim_ast.specs.Functions.{operands_of}
 use Rattle.gim_ast.specs.Runs.{Env, assign, name_type, rhs_value, pass_stmts, On}
-use Rattle.gim_meaning.specs.ReachedPoints.{Inside, Reaches}
+use Rattle.gim_meaning.specs.ReachedPoints.{Inside, Reaches, Lies}
 use Rattle.gim_meaning.proofs.Agreement.{AgreeOn, AllStand, agree_assigned, same_value}
 use Rattle.gim_meaning.proofs.Lockstep.{PassesAlike, passes_alike, passes_stmt}
 use Rattle.gim_meaning.proofs.OperandsStand.{TypedAlike, stmt_stands}
-use Rattle.gim_meaning.proofs.Reached.{Lies, lies}
+use Rattle.gim_meaning.proofs.Reached.{lies}
 
 module _ (f g : Function) (Stands : ℕ → Type 0) (all : AllStand Stands (operands_of f))
     (typed : (block : Block) (stmt : Stmt) (stmts : List Stmt) → Lies f block (stmt ∷ stmts) → TypedAlike f g stmt.name) where

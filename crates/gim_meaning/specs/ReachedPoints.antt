@@ -1,5 +1,5 @@
 -- Where a run comes, item by item, with the words that names have there.
-use Rattle.std.specs.Prelude.{◌≡◌, ℕ, Some, List, [], ◌∷◌}
+use Rattle.std.specs.Prelude.{◌≡◌, ℕ, Some, List, [], ◌∷◌, ◌++◌}
 use Rattle.pm_wide.specs.Types.{Word}
 use Rattle.gim_ast.specs.declared.function.Function.{Function}
 use Rattle.gim_ast.specs.declared.function.Block.{Block}
@@ -22,3 +22,9 @@ pub data Reaches (f : Function) (args : List Word) : Spot → Type 0 where
       Reaches f args (Inside block (stmt ∷ stmts) env) → Reaches f args (Inside block stmts (assign stmt.name w env))
   leave : (block : Block) (env : Env) (n : ℕ) → lead_of env block.end ≡ To n → Reaches f args (Inside block [] env) →
       Reaches f args (Between (record { from = block.number; to = n; env = env }))
+
+-- the block is the function's, and these are its last statements
+pub record Lies (f : Function) (block : Block) (stmts : List Stmt) : Type 0 where
+  pub found : block_of f block.number ≡ Some block
+  pub front : List Stmt
+  pub is : block.stmts ≡ front ++ stmts
