@@ -25,7 +25,7 @@ module _ {X : Type 0} (p : X → Bool) where
   any_both xs zs ys ws h k e = list_any-append p zs ws
       ∙ either_kept (list_any p xs) (list_any p ys) (list_any p zs) (list_any p ws) h k (sym (list_any-append p xs ys) ∙ e)
 
-  any_of_filtered : (q : X → Bool) (xs : List X) → list_any p (filter q xs) ≡ true → list_any p xs ≡ true
+  pub any_of_filtered : (q : X → Bool) (xs : List X) → list_any p (filter q xs) ≡ true → list_any p xs ≡ true
   any_of_filtered q [] e = e
   any_of_filtered q (x ∷ xs) e = by (q x) (any_of_filtered q xs) e
     where
@@ -34,7 +34,7 @@ module _ {X : Type 0} (p : X → Bool) where
       by true rest e = either_kept (p x) (list_any p (filter q xs)) (p x) (list_any p xs) (λ h. h) rest e
       by false rest e = or_right (p x) (list_any p xs) (rest e)
 
-  any_of_parts : {Y : Type 0} (g : Y → List X) (q : Y → Bool) (ys : List Y) → list_any p (flat_map g (filter q ys)) ≡ true → list_any p (flat_map g ys) ≡ true
+  pub any_of_parts : {Y : Type 0} (g : Y → List X) (q : Y → Bool) (ys : List Y) → list_any p (flat_map g (filter q ys)) ≡ true → list_any p (flat_map g ys) ≡ true
   any_of_parts g q [] e = e
   any_of_parts g q (y ∷ ys) e = by (q y) (any_of_parts g q ys) e
     where
@@ -73,7 +73,7 @@ used_in_blocks x y (block ∷ blocks) e =
     any_both (is_name y) (operands_of_block (without_in_block x block)) (operands_of_block block) (flat_map operands_of_block (map (without_in_block x) blocks)) (flat_map operands_of_block blocks)
     (used_in_block x y block) (used_in_blocks x y blocks) e
 
-used_before : (x y : ℕ) (f : Function) → is_used (without x f) y ≡ true → is_used f y ≡ true
+pub used_before : (x y : ℕ) (f : Function) → is_used (without x f) y ≡ true → is_used f y ≡ true
 unfolding operands_of without
 used_before x y f = used_in_blocks x y f.blocks
 

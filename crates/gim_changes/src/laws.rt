@@ -1,4 +1,6 @@
 //! What changes of a function keep. Each call here does nothing: its contract is a law, which its check proves.
+pub mod readability;
+
 ghost use Rattle.std.specs.Prelude.{◌≡◌, ℕ, None, map};
 ghost use Rattle.std.specs.List.{count_by};
 ghost use Rattle.pm_ops.specs.declared.code.Code.{Code};

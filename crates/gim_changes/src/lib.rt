@@ -4,11 +4,13 @@
 //! The definitions stand in `specs`; what holds of them stands in `laws`.
 #![tactic(auto)]
 
+mod insertion;
 pub mod laws;
 mod removal;
 mod substitution;
 mod trimming;
 
+pub use insertion::insert_stmt;
 pub use removal::prune;
 pub use substitution::{put_in_all, set_condition, set_rhs};
 pub use trimming::{tidy, trim};

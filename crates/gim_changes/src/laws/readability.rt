@@ -1,0 +1,51 @@
+//! Where names are readable in a valid function, and which names may be read in place of another.
+ghost use Rattle.std.specs.Prelude.{◌≡◌, ◌↔◌, ◌++◌, ◌∷◌, ℕ, IsTrue, Some, List, slice_get};
+ghost use Rattle.std.specs.List.{AllByRecursion};
+ghost use Rattle.gim_ast.specs.declared.function.Block.{Block};
+ghost use Rattle.gim_ast.specs.declared.function.Function.{Function};
+ghost use Rattle.gim_ast.specs.Functions.{assigned_in, right_of};
+ghost use Rattle.gim_ast.specs.Readable.{read_for, Supports, uses_in, IsReadable, IsValid};
+ghost use Rattle.gim_ast.specs.WellFormed.{is_assigned, IsWellFormed};
+ghost use Rattle.gim_changes.specs.Trimming.{stands_in};
+ghost use Rattle.gim_changes.specs.Validity.{IsAlwaysAssigned, IsAlwaysAssignedUse, ComesBefore};
+
+/// A well-formed function is valid exactly where each path to a use assigns the name that is read there, and the
+/// name isn't in its own support. That its support isn't assigned since then follows.
+pub fn valid_where_uses_are_assigned()
+    ensures { (f : Function) → IsWellFormed f → IsValid f ↔ AllByRecursion (IsAlwaysAssignedUse f) (uses_in f) }
+{}
+
+/// So is a name readable in a valid function exactly where each path assigns it.
+pub fn readable_where_assigned()
+    ensures { (f : Function) (x n : ℕ) (left : List ℕ) → IsValid f → IsReadable f x n left ↔ IsAlwaysAssigned f x n left }
+{}
+
+/// Where a name is readable, each name of its support is.
+pub fn support_is_readable()
+    ensures { (f : Function) (x y n : ℕ) (left : List ℕ) → IsValid f → IsReadable f x n left →
+        Supports (read_for f) x y → IsReadable f y n left }
+{}
+
+/// A name that comes before another is readable wherever the other one is.
+pub fn what_comes_before_is_readable()
+    ensures { (f : Function) (x y n : ℕ) (left : List ℕ) → IsValid f → IsTrue (is_assigned f x) → ComesBefore f y x →
+        IsReadable f x n left → IsReadable f y n left }
+{}
+
+/// Each name of the support of a name comes before it.
+pub fn support_comes_before()
+    ensures { (f : Function) (x y : ℕ) → IsValid f → Supports (read_for f) x y → ComesBefore f y x }
+{}
+
+/// So does another name with the same right side that is readable wherever it is assigned.
+pub fn same_right_side_comes_before()
+    ensures { (f : Function) (x y : ℕ) → IsValid f → right_of f y ≡ right_of f x → (y ≡ x → ⊥) → IsTrue (stands_in f y) →
+        ((n : ℕ) (left : List ℕ) → IsReadable f y n (x ∷ left)) → ComesBefore f y x }
+{}
+
+/// A name is assigned at one point: what is readable there is readable wherever the name is assigned.
+pub fn a_name_is_assigned_at_one_point()
+    ensures { (f : Function) (x y place : ℕ) (home : Block) (front left : List ℕ) → IsValid f →
+        slice_get f.blocks place ≡ Some home → assigned_in home ≡ front ++ x ∷ left →
+        IsReadable f y home.number (x ∷ left) → (n : ℕ) (rest : List ℕ) → IsReadable f y n (x ∷ rest) }
+{}
