@@ -1,4 +1,5 @@
 mod Agreement
+mod InsertionRuns
 mod KeptInARow
 mod ListSearch
 mod Lockstep

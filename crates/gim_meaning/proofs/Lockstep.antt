@@ -12,7 +12,7 @@ use Rattle.gim_meaning.specs.ReachedPoints.{Spot, Between, Inside, Reaches, star
 use Rattle.gim_meaning.specs.KeptRuns.{AreArgumentWords, KeepsDefinedRuns}
 use Rattle.gim_meaning.proofs.Agreement.{AgreeOn}
 use Rattle.gim_meaning.proofs.ListSearch.{first_of_changed}
-use Rattle.gim_meaning.proofs.Reached.{reaches_end}
+use Rattle.gim_meaning.proofs.Reached.{passed_first, reaches_end}
 
 abbrev way : ℕ → ℕ → Env → Place
 way from to env = record { from = from; to = to; env = env }
@@ -120,17 +120,11 @@ module _ (f g : Function) (Stands : ℕ → Type 0) (args : List Word) (block : 
   passes_alike steps ends [] e after d reached is agree =
       let same : e ≡ after = cc in
       subst (λ env. PassesAlike g Stands env (changed []) d) same (ends e d reached agree)
-  passes_alike steps ends (stmt ∷ stmts) e after d reached is agree = by (rhs_value (name_type f stmt.name) e stmt.rhs) refl is
-      (λ w value passed. let stepped = steps stmt stmts e d w reached agree value in
-      let rest = passes_alike steps ends stmts (assign stmt.name w e) after stepped.0 (pass block stmt stmts e w value reached) passed stepped.2 in
-      (rest.0, stepped.1 ∙ rest.1, rest.2))
-    where
-      by : (found : Option Word) → rhs_value (name_type f stmt.name) e stmt.rhs ≡ found →
-          option_map_or (λ w. pass_stmts f stmts (assign stmt.name w e)) found (Stuck stmt.name) ≡ On after →
-          ((w : Word) → rhs_value (name_type f stmt.name) e stmt.rhs ≡ Some w → pass_stmts f stmts (assign stmt.name w e) ≡ On after → PassesAlike g Stands after (changed (stmt ∷ stmts)) d) →
-          PassesAlike g Stands after (changed (stmt ∷ stmts)) d
-      by None value e rest = cc
-      by (Some w) value e rest = rest w value e
+  passes_alike steps ends (stmt ∷ stmts) e after d reached is agree =
+      let passed = passed_first f stmt stmts e after is in
+      let stepped = steps stmt stmts e d passed.0 reached agree passed.1 in
+      let rest = passes_alike steps ends stmts (assign stmt.name passed.0 e) after stepped.0 (pass block stmt stmts e passed.0 passed.1 reached) passed.2 stepped.2 in
+      (rest.0, stepped.1 ∙ rest.1, rest.2)
 
 -- a statement of g that has the value passes on
 pub passes_stmt : (g : Function) (stmt : Stmt) (stmts : List Stmt) (d : Env) (w : Word) → rhs_value (name_type g stmt.name) d stmt.rhs ≡ Some w →

@@ -21,7 +21,7 @@ use Rattle.gim_meaning.specs.SameReading.{GivesAlike, DecidesAlike}
 use Rattle.gim_meaning.proofs.Agreement.{AgreeOn, agree_assigned, same_value, same_lead}
 use Rattle.gim_meaning.proofs.Lockstep.{PassesAlike, GoesAlike, alike_keeps_runs, passes_alike, passes_stmt}
 use Rattle.gim_meaning.proofs.OperandsStand.{Any, all_stand, phis_stand, TypedAlike, same_phis, each_phi_typed}
-use Rattle.gim_meaning.proofs.UnchangedItems.{same_stmts, same_step}
+use Rattle.gim_meaning.proofs.UnchangedItems.{same_rest, same_step, left_by_choice}
 
 -- phis that a change leaves in a function of the same names
 same_phis_on : (f g : Function) (from : ℕ) (block : Block) (phis : List Phi) (e d : Env) → ((x : ℕ) → TypedAlike f g x) → phis ≡ block.phis → AgreeOn Any e d →
@@ -85,8 +85,7 @@ module _ (f : Function) (n : ℕ) (code : Code) (a b : Operand) (decides : Decid
 
   -- what the change leaves of a block
   left_of_block : {X : Type 0} (see : Block → X) (block : Block) → see (record block { end = with_condition_in_end code a b block.end }) ≡ see block → see (changed block) ≡ see block
-  left_of_block see block same =
-      elim (eqb block.number n) as (λ t. see (cond t (record block { end = with_condition_in_end code a b block.end }) block) ≡ see block) [ true ↦ same | false ↦ refl ]
+  left_of_block see block same = left_by_choice see (eqb block.number n) (record block { end = with_condition_in_end code a b block.end }) block same
 
   condition_typed : (y : ℕ) → TypedAlike f (with_condition n code a b f) y
   unfolding name_type row_of with_condition
@@ -118,7 +117,7 @@ module _ (f : Function) (n : ℕ) (code : Code) (a b : Operand) (decides : Decid
           same_phis_on f (with_condition n code a b f) place.from block (changed block).phis place.env d condition_typed (left_of_block (λ (c : Block). c.phis) block refl) agree;
       stmts = λ block e after d reached is agree.
           subst (λ ss. PassesAlike (with_condition n code a b f) Any after ss d) (sym (left_of_block (λ (c : Block). c.stmts) block refl))
-          (same_stmts f (with_condition n code a b f) Any (all_stand (operands_of f)) (λ c s ss there. condition_typed s.name) args block e after d reached is agree);
+          (same_rest f (with_condition n code a b f) Any (all_stand (operands_of f)) (λ c s ss there. condition_typed s.name) args block block.stmts e after d reached is agree);
       ends = condition_ends;
     }
 

@@ -39,16 +39,21 @@ lies_there f args _ (leave block env n is before) = tt
 pub lies : {f : Function} {args : List Word} {block : Block} {stmts : List Stmt} {env : Env} → Reaches f args (Inside block stmts env) → Lies f block stmts
 lies {f} {args} {block} {stmts} {env} reached = lies_there f args (Inside block stmts env) reached
 
+-- what passes statements passes the first one, which has a value
+pub passed_first : (f : Function) (stmt : Stmt) (stmts : List Stmt) (env after : Env) → pass_stmts f (stmt ∷ stmts) env ≡ On after →
+    (w : Word) × (rhs_value (name_type f stmt.name) env stmt.rhs ≡ Some w) × (pass_stmts f stmts (assign stmt.name w env) ≡ On after)
+passed_first f stmt stmts env after is = by (rhs_value (name_type f stmt.name) env stmt.rhs) refl is
+  where
+    by : (found : Option Word) → rhs_value (name_type f stmt.name) env stmt.rhs ≡ found →
+        option_map_or (λ w. pass_stmts f stmts (assign stmt.name w env)) found (Stuck stmt.name) ≡ On after →
+        (w : Word) × (rhs_value (name_type f stmt.name) env stmt.rhs ≡ Some w) × (pass_stmts f stmts (assign stmt.name w env) ≡ On after)
+    by None value e = cc
+    by (Some w) value e = (w, value, e)
+
 -- a run that passes statements comes to the end of the block
 pub reaches_end : (f : Function) (args : List Word) (block : Block) (stmts : List Stmt) (env after : Env) →
     Reaches f args (Inside block stmts env) → pass_stmts f stmts env ≡ On after → Reaches f args (Inside block [] after)
 reaches_end f args block [] env after reached is = let same : env ≡ after = cc in subst (λ e. Reaches f args (Inside block [] e)) same reached
-reaches_end f args block (stmt ∷ stmts) env after reached is = by (rhs_value (name_type f stmt.name) env stmt.rhs) refl is
-    (λ w value passed. reaches_end f args block stmts (assign stmt.name w env) after (pass block stmt stmts env w value reached) passed)
-  where
-    by : (found : Option Word) → rhs_value (name_type f stmt.name) env stmt.rhs ≡ found →
-        option_map_or (λ w. pass_stmts f stmts (assign stmt.name w env)) found (Stuck stmt.name) ≡ On after →
-        ((w : Word) → rhs_value (name_type f stmt.name) env stmt.rhs ≡ Some w → pass_stmts f stmts (assign stmt.name w env) ≡ On after → Reaches f args (Inside block [] after)) →
-        Reaches f args (Inside block [] after)
-    by None value e rest = cc
-    by (Some w) value e rest = rest w value e
+reaches_end f args block (stmt ∷ stmts) env after reached is =
+    let passed = passed_first f stmt stmts env after is in
+    reaches_end f args block stmts (assign stmt.name passed.0 env) after (pass block stmt stmts env passed.0 passed.1 reached) passed.2

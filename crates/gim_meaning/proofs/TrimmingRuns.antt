@@ -23,7 +23,7 @@ use Rattle.gim_meaning.specs.ReachedPoints.{Lies}
 use Rattle.gim_meaning.proofs.Reached.{lies}
 use Rattle.gim_meaning.proofs.RemovalRuns.{pruning_keeps_runs}
 use Rattle.gim_meaning.proofs.RightSides.{Has, in_front, in_back, has_stmt, is_assigned_in}
-use Rattle.gim_meaning.proofs.UnchangedItems.{same_stmts}
+use Rattle.gim_meaning.proofs.UnchangedItems.{same_rest}
 
 module _ (f : Function) where
   abbrev StandsIn : ℕ → Type 0
@@ -87,7 +87,7 @@ module _ (f : Function) where
     begins = starts_trimmed args;
     phis = λ place block d reached found agree.
         same_phis f (trimmed f) StandsIn place.from block.phis place.env d agree (phis_typed place.to block found) (phis_stand f StandsIn operands_stand place.to block found);
-    stmts = same_stmts f (trimmed f) StandsIn operands_stand stmt_typed args;
+    stmts = λ block e after d reached is agree. same_rest f (trimmed f) StandsIn operands_stand stmt_typed args block block.stmts e after d reached is agree;
     ends = λ block e d reached agree. same_lead StandsIn e d agree block.end (end_stands f StandsIn operands_stand block.number block (lies reached).found);
   }
 

@@ -206,7 +206,7 @@ phis_typed f well from old old_typed (phi ∷ phis) hold e typed =
     phis_typed f well from old old_typed phis parts.1 (assign phi.name (phi_word f from old phi) e)
     (assigned_typed f e phi.name (phi_word f from old phi) typed (phi_typed f old old_typed well from phi parts.0))
 
-block_is_right : (f : Function) → IsWellFormed f → (n : ℕ) (block : Block) → block_of f n ≡ Some block → block_holds f block ≡ true
+pub block_is_right : (f : Function) → IsWellFormed f → (n : ℕ) (block : Block) → block_of f n ≡ Some block → block_holds f block ≡ true
 unfolding block_of
 block_is_right f well n block found = all_of_found (λ (b : Block). eqb b.number n) (block_holds f) f.blocks block found (blocks_hold f well)
 

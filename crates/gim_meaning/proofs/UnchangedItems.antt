@@ -1,5 +1,5 @@
--- Statements that a change leaves pass on alike.
-use Rattle.std.proofs.Common.{◌≡◌, ℕ, Some, List, [], ◌∷◌, refl, ap, ◌∙◌}
+-- Items that a change leaves: statements pass on alike.
+use Rattle.std.proofs.Common.{◌≡◌, ℕ, Bool, true, false, cond, Some, List, [], ◌∷◌, refl, ap, ◌∙◌}
 use Rattle.pm_wide.specs.Types.{Word}
 use Rattle.gim_ast.specs.declared.function.Function.{Function}
 use Rattle.gim_ast.specs.declared.function.Block.{Block}
@@ -26,7 +26,13 @@ module _ (f g : Function) (Stands : ℕ → Type 0) (all : AllStand Stands (oper
       ∙ same_value Stands e d agree (name_type f stmt.name) stmt.rhs (stmt_stands f Stands all block stmt stmts there) ∙ value),
       agree_assigned Stands e d stmt.name w agree)
 
-  pub same_stmts : (args : List Word) (block : Block) (e after d : Env) → Reaches f args (Inside block block.stmts e) → pass_stmts f block.stmts e ≡ On after → AgreeOn Stands e d →
-      PassesAlike g Stands after block.stmts d
-  same_stmts args block e after d reached is agree =
-      passes_alike f g Stands args block (λ stmts. stmts) (λ stmt stmts e d w. same_step args block stmt stmts stmts e d w) (λ e d reached agree. (d, refl, agree)) block.stmts e after d reached is agree
+  -- the last statements of a block, left as they are
+  pub same_rest : (args : List Word) (block : Block) (stmts : List Stmt) (e after d : Env) → Reaches f args (Inside block stmts e) → pass_stmts f stmts e ≡ On after → AgreeOn Stands e d →
+      PassesAlike g Stands after stmts d
+  same_rest args block stmts e after d reached is agree =
+      passes_alike f g Stands args block (λ ss. ss) (λ stmt ss e d w. same_step args block stmt ss ss e d w) (λ e d reached agree. (d, refl, agree)) stmts e after d reached is agree
+
+-- what one change in two leaves, the choice of them leaves
+pub left_by_choice : {X Y : Type 0} (see : X → Y) (b : Bool) (changed x : X) → see changed ≡ see x → see (cond b changed x) ≡ see x
+left_by_choice see true changed x same = same
+left_by_choice see false changed x same = refl

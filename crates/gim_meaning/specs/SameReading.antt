@@ -1,15 +1,17 @@
 -- What has to hold where runs come so that a change keeps them.
-use Rattle.std.specs.Prelude.{◌≡◌, ℕ, Some, List, [], ◌∷◌, map}
+use Rattle.std.specs.Prelude.{◌≡◌, ℕ, ⊤, IsTrue, Some, None, IsSome, List, [], ◌∷◌, map}
+use Rattle.std.specs.List.{list_all}
 use Rattle.pm_ops.specs.declared.code.Code.{Code}
-use Rattle.pm_wide.specs.Types.{Word}
+use Rattle.pm_wide.specs.Types.{Ty, Word}
 use Rattle.pm_wide.specs.declared.operand.Operand.{Operand}
 use Rattle.gim_ast.specs.declared.function.Function.{Function}
 use Rattle.gim_ast.specs.declared.function.Block.{Block}
 use Rattle.gim_ast.specs.declared.function.Stmt.{Stmt}
 use Rattle.gim_ast.specs.declared.function.Rhs.{Rhs}
 use Rattle.gim_ast.specs.declared.function.End.TheVariants.{If}
-use Rattle.gim_ast.specs.Functions.{stmt_name}
+use Rattle.gim_ast.specs.Functions.{stmt_name, row_of, operands_of_stmt}
 use Rattle.gim_ast.specs.Readable.{Use, Supports, read_for}
+use Rattle.gim_ast.specs.WellFormed.{operand_holds}
 use Rattle.gim_ast.specs.Runs.{Env, word_of_operand, rhs_value, name_type, holds}
 use Rattle.gim_meaning.specs.KeptRuns.{AreArgumentWords}
 use Rattle.gim_meaning.specs.PresentValues.{AreTyped, HasItsValue, ArePossible}
@@ -49,3 +51,23 @@ AlwaysDecidesAlike f n old left right code a b = (env : Env) → ArePossible f n
 -- in all words of their types where x and each name of its support have their values, the operand has the word of x
 abbrev pub FollowsFrom : Function → ℕ → Operand → Type 0
 FollowsFrom f x by = (env : Env) → AreTyped f env → HasItsValue f env x → ((y : ℕ) → Supports (read_for f) x y → HasItsValue f env y) → word_of_operand env by ≡ env x
+
+-- ---- a statement that is put before others
+
+-- the first of these statements has a value, if there is one
+abbrev pub GoesOn : Function → List Stmt → Env → Type 0
+GoesOn f [] env = ⊤
+GoesOn f (stmt ∷ stmts) env = IsSome (rhs_value (name_type f stmt.name) env stmt.rhs)
+
+-- whenever a run comes to these statements of the block and goes on, the right side has a value of the type
+abbrev pub HasValueThere : Function → Block → List Stmt → Ty → Rhs → Type 0
+HasValueThere f block stmts t rhs = (args : List Word) → AreArgumentWords f args → (env : Env) → Reaches f args (Inside block stmts env) → GoesOn f stmts env → IsSome (rhs_value t env rhs)
+
+-- whatever words names may have there with which a run goes on, the right side has a value of the type
+abbrev pub AlwaysHasValueThere : Function → Block → List Stmt → Ty → Rhs → Type 0
+AlwaysHasValueThere f block stmts t rhs = (env : Env) → ArePossible f block.number (map stmt_name stmts) env → GoesOn f stmts env → IsSome (rhs_value t env rhs)
+
+-- a name without a row, whose statement reads names and constants that the function may have, so none that it makes
+pub record IsNewStmt (f : Function) (stmt : Stmt) : Type 0 where
+  pub new : row_of f stmt.name ≡ None
+  pub reads : IsTrue (list_all (operand_holds f) (operands_of_stmt stmt))

@@ -1,11 +1,12 @@
 //! What holds where runs come, and which changes keep every defined run. Each call here does nothing: its contract is a
 //! law, which its check proves.
-ghost use Rattle.std.specs.Prelude.{◌≡◌, ℕ, false, Some, List, ◌∷◌, map};
+ghost use Rattle.std.specs.Prelude.{◌≡◌, ℕ, false, Some, List, ◌∷◌, ◌++◌, length, map, slice_get};
 ghost use Rattle.std.specs.List.{AllByRecursion};
 ghost use Rattle.pm_ops.specs.declared.code.Code.{Code};
 ghost use Rattle.pm_wide.specs.Types.{Word};
 ghost use Rattle.pm_wide.specs.declared.operand.Operand.{Operand};
 ghost use Rattle.gim_ast.specs.declared.function.Block.{Block};
+ghost use Rattle.gim_ast.specs.declared.function.Decl.{Decl};
 ghost use Rattle.gim_ast.specs.declared.function.End.TheVariants.{If};
 ghost use Rattle.gim_ast.specs.declared.function.Function.{Function};
 ghost use Rattle.gim_ast.specs.declared.function.Rhs.{Rhs};
@@ -14,13 +15,14 @@ ghost use Rattle.gim_ast.specs.Functions.{is_used, stmt_name, block_of};
 ghost use Rattle.gim_ast.specs.Readable.{uses_in, IsValid};
 ghost use Rattle.gim_ast.specs.Runs.{Env};
 ghost use Rattle.gim_ast.specs.WellFormed.{IsWellFormed};
+ghost use Rattle.gim_changes.specs.Insertion.{with_stmt};
 ghost use Rattle.gim_changes.specs.Removal.{without, pruned};
 ghost use Rattle.gim_changes.specs.Substitution.{put_in_all, with_rhs, with_condition};
 ghost use Rattle.gim_changes.specs.Trimming.{trimmed, tidied};
 ghost use Rattle.gim_meaning.specs.KeptRuns.{AreArgumentWords, KeepsDefinedRuns};
 ghost use Rattle.gim_meaning.specs.PresentValues.{ArePossible};
 ghost use Rattle.gim_meaning.specs.ReachedPoints.{Inside, Reaches, Lies};
-ghost use Rattle.gim_meaning.specs.SameReading.{ReadsAlike, GivesAlike, DecidesAlike, AlwaysReadsAlike, AlwaysGivesAlike, AlwaysDecidesAlike, FollowsFrom};
+ghost use Rattle.gim_meaning.specs.SameReading.{ReadsAlike, GivesAlike, DecidesAlike, AlwaysReadsAlike, AlwaysGivesAlike, AlwaysDecidesAlike, FollowsFrom, HasValueThere, IsNewStmt};
 
 /// Whenever a run of a well-formed function comes to a point, each name has a word of its type, and each name that is readable
 /// there has the value that its operation gives on the present words of its operands.
@@ -86,4 +88,12 @@ pub fn condition_by_values_keeps_runs()
     ensures { (f : Function) (block : Block) (old : Code) (left right : Operand) (yes_to no_to : ℕ) (code : Code) (a b : Operand) →
         IsWellFormed f → block_of f block.number ≡ Some block → block.end ≡ If old left right yes_to no_to →
         AlwaysDecidesAlike f block.number old left right code a b → KeepsDefinedRuns f (with_condition block.number code a b f) }
+{}
+
+/// A new statement, whose name no row of `names` has as yet, keeps every defined run where its operation has a value whenever
+/// a run comes to its place and goes on from there.
+pub fn insertion_keeps_runs()
+    ensures { (f : Function) (place : ℕ) (home : Block) (front rest : List Stmt) (stmt : Stmt) (decl : Decl) → IsWellFormed f →
+        slice_get f.blocks place ≡ Some home → home.stmts ≡ front ++ rest → IsNewStmt f stmt → HasValueThere f home rest decl.ty stmt.rhs →
+        KeepsDefinedRuns f (with_stmt place (length front) stmt decl f) }
 {}
