@@ -107,6 +107,11 @@ blocks_apart : (f : Function) → IsWellFormed f → AreApart f.blocks
 unfolding AreApart
 blocks_apart f well = (and_parts _ _ (and_parts _ _ (and_parts _ _ well.blocks).0).0).1
 
+-- the block at a place is that of its number
+pub block_at : (f : Function) → IsWellFormed f → (place : ℕ) (home : Block) → slice_get f.blocks place ≡ Some home → block_of f home.number ≡ Some home
+unfolding block_of
+block_at f well place home at = found_at f.blocks place home (blocks_apart f well) at
+
 -- ---- a name without a row
 
 module _ (f : Function) (new : ℕ) (none : row_of f new ≡ None) where
@@ -224,9 +229,7 @@ module _ (f : Function) (well : IsWellFormed f) (place : ℕ) (home : Block) (at
         (more.0, stepped.1 ∙ more.1, more.2)
 
     home_is : (block : Block) → block_of f block.number ≡ Some block → block.number ≡ home.number → block ≡ home
-    unfolding block_of
-    home_is block found number =
-        same_Some block home (sym found ∙ ap (λ n. first_where (λ (b : Block). eqb b.number n) f.blocks) number ∙ found_at f.blocks place home (blocks_apart f well) at)
+    home_is block found number = same_Some block home (sym found ∙ ap (block_of f) number ∙ block_at f well place home at)
 
     passes_block : (block : Block) (e after d : Env) → Reaches f args (Inside block block.stmts e) → pass_stmts f block.stmts e ≡ On after → AgreeOn Others e d →
         PassesAlike g Others after (changed block).stmts d

@@ -15,3 +15,4 @@ mod SubstitutionRuns
 mod TrimmingRuns
 mod TypedWords
 mod UnchangedItems
+mod UnfoldedTerms

@@ -1,5 +1,5 @@
 -- What holds of all words that names may have at a point holds whenever a run comes there.
-use Rattle.std.proofs.Common.{◌≡◌, ℕ, Bool, false, Some, List, [], ◌∷◌, map, refl, sym, ap, subst, ◌∙◌}
+use Rattle.std.proofs.Common.{◌≡◌, ℕ, Bool, false, Some, List, [], ◌∷◌, ◌++◌, map, length, slice_get, refl, sym, ap, subst, ◌∙◌}
 use Rattle.std.specs.List.{AllByRecursion}
 use Rattle.std.proofs.lemmas.Option.{same_Some}
 use Rattle.pm_ops.specs.declared.code.Code.{Code}
@@ -7,6 +7,7 @@ use Rattle.pm_wide.specs.Types.{Word}
 use Rattle.pm_wide.specs.declared.operand.Operand.{Operand}
 use Rattle.gim_ast.specs.declared.function.Function.{Function}
 use Rattle.gim_ast.specs.declared.function.Block.{Block}
+use Rattle.gim_ast.specs.declared.function.Decl.{Decl}
 use Rattle.gim_ast.specs.declared.function.Stmt.{Stmt}
 use Rattle.gim_ast.specs.declared.function.Rhs.{Rhs}
 use Rattle.gim_ast.specs.declared.function.End.{End}
@@ -16,11 +17,13 @@ use Rattle.gim_ast.specs.Readable.{Use, uses_in, IsReadable, IsReadableUse, IsVa
 use Rattle.gim_ast.specs.WellFormed.{IsWellFormed}
 use Rattle.gim_ast.specs.Runs.{Env, word_of_operand, rhs_value, name_type, holds}
 use Rattle.gim_ast.proofs.ReadableLemmas.{support_is_readable}
+use Rattle.gim_changes.specs.Insertion.{with_stmt}
 use Rattle.gim_changes.specs.Substitution.{put_in_all, with_rhs, with_condition}
 use Rattle.gim_meaning.specs.KeptRuns.{AreArgumentWords, KeepsDefinedRuns}
 use Rattle.gim_meaning.specs.PresentValues.{ArePossible}
 use Rattle.gim_meaning.specs.ReachedPoints.{Inside, Reaches, Lies}
-use Rattle.gim_meaning.specs.SameReading.{ReadsAlike, GivesAlike, DecidesAlike, AlwaysReadsAlike, AlwaysGivesAlike, AlwaysDecidesAlike, FollowsFrom}
+use Rattle.gim_meaning.specs.SameReading.{ReadsAlike, GivesAlike, DecidesAlike, AlwaysReadsAlike, AlwaysGivesAlike, AlwaysDecidesAlike, FollowsFrom, AlwaysHasValueThere, IsNewStmt}
+use Rattle.gim_meaning.proofs.InsertionRuns.{block_at, insertion_keeps_runs}
 use Rattle.gim_meaning.proofs.NewRightSides.{right_side_keeps_runs, condition_keeps_runs}
 use Rattle.gim_meaning.proofs.OnePlace.{one_place, head_or}
 use Rattle.gim_meaning.proofs.ReadableValues.{readable_has_its_value}
@@ -91,3 +94,15 @@ always_decided_keeps_runs f block old left right yes_to no_to code a b well foun
         let ends : If code' left' right' yes' no' ≡ If old left right yes_to no_to = sym is ∙ ap (λ (c : Block). c.end) same ∙ end in
         let possible = subst (λ n. ArePossible f n [] env) number (words_are_possible f args other [] env well words reached) in
         always env possible ∙ sym (ap (holds_at env) ends)
+
+-- ---- a statement before others
+
+-- the statements from a place of a block on are its last
+pub lies_at : (f : Function) → IsWellFormed f → (place : ℕ) (home : Block) (front rest : List Stmt) → slice_get f.blocks place ≡ Some home → home.stmts ≡ front ++ rest → Lies f home rest
+lies_at f well place home front rest at split = record { found = block_at f well place home at; front = front; is = split }
+
+pub always_defined_keeps_runs : (f : Function) (place : ℕ) (home : Block) (front rest : List Stmt) (stmt : Stmt) (decl : Decl) → IsWellFormed f → slice_get f.blocks place ≡ Some home →
+    home.stmts ≡ front ++ rest → IsNewStmt f stmt → (Lies f home rest → AlwaysHasValueThere f home rest decl.ty stmt.rhs) → KeepsDefinedRuns f (with_stmt place (length front) stmt decl f)
+always_defined_keeps_runs f place home front rest stmt decl well at split is_new always =
+    insertion_keeps_runs f well place home at front rest split stmt decl is_new
+    (λ args words env reached goes_on. always (lies_at f well place home front rest at split) env (words_are_possible f args home rest env well words reached) goes_on)

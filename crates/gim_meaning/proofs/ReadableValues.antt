@@ -54,7 +54,7 @@ others_stand y (Name x t ∷ operands) none = (
 )
 others_stand y (Const w ∷ operands) none = (tt, others_stand y operands none)
 
-reads_of : (f : Function) (x : ℕ) (rhs : Rhs) → right_of f x ≡ Some rhs → read_for f x ≡ names_among (operands_of_rhs rhs)
+pub reads_of : (f : Function) (x : ℕ) (rhs : Rhs) → right_of f x ≡ Some rhs → read_for f x ≡ names_among (operands_of_rhs rhs)
 unfolding read_for
 reads_of f x rhs is = ap (λ found. option_map_or (λ (r : Rhs). names_among (operands_of_rhs r)) found []) is
 

@@ -125,14 +125,14 @@ module _ (x : ℕ) (by : Operand) (e d : Env) (agree : AgreeOn Any e d) where
 
 module _ (P : Use → Type 0) where
   -- what holds of the uses at one point
-  names_at : {Q : ℕ → Type 0} (n k at : ℕ) (left : List ℕ) → ((y : ℕ) → P (record { block = n; item = k; name = y; at = at; left = left }) → Q y) →
+  pub names_at : {Q : ℕ → Type 0} (n k at : ℕ) (left : List ℕ) → ((y : ℕ) → P (record { block = n; item = k; name = y; at = at; left = left }) → Q y) →
       (operands : List Operand) → AllByRecursion P (uses_at n k at left operands) → AllByRecursion Q (names_among operands)
   names_at n k at left tells [] all = tt
   names_at n k at left tells (Name y t ∷ operands) all = (tells y all.0, names_at n k at left tells operands all.1)
   names_at n k at left tells (Const w ∷ operands) all = names_at n k at left tells operands all
 
   -- those of a statement in the middle
-  uses_of_stmt : (n k : ℕ) (front : List Stmt) (stmt : Stmt) (stmts : List Stmt) → AllByRecursion P (uses_in_stmts n k (front ++ stmt ∷ stmts)) →
+  pub uses_of_stmt : (n k : ℕ) (front : List Stmt) (stmt : Stmt) (stmts : List Stmt) → AllByRecursion P (uses_in_stmts n k (front ++ stmt ∷ stmts)) →
       (j : ℕ) × AllByRecursion P (uses_at n j n (map stmt_name (stmt ∷ stmts)) (operands_of_stmt stmt))
   uses_of_stmt n k [] stmt stmts all = (k, all_left P (uses_at n k n (map stmt_name (stmt ∷ stmts)) (operands_of_stmt stmt)) (uses_in_stmts n (k + 1) stmts) all)
   uses_of_stmt n k (s ∷ front) stmt stmts all =

@@ -85,7 +85,7 @@ name_has_type f well x = by (row_of f x) refl
 
 -- ---- at the start
 
-zero_is_word : (t : Ty) → IsType t → IsWord (zero_of t)
+pub zero_is_word : (t : Ty) → IsType t → IsWord (zero_of t)
 zero_is_word t is = (pow_pos t.width, is)
 
 argument_is_word : (ident : List ℕ) (params : List Decl) (args : List Word) (t : Ty) → IsType t → AllByRecursion IsWord args → IsWord (option_map_or (λ w. w) (argument_of ident params args) (zero_of t))

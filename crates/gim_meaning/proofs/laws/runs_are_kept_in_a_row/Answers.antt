@@ -1,3 +1,4 @@
+use Rattle.gim_meaning.proofs.UnfoldedTerms.{refining_condition_keeps_runs}
 use Rattle.gim_meaning.proofs.KeptInARow.{keeps_itself, keeps_through}
 use Rattle.gim_meaning.proofs.laws.runs_are_kept_in_a_row.Goals as goal
 
