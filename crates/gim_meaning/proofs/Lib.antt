@@ -11,6 +11,7 @@ mod ReadableValues
 mod Reached
 mod RemovalRuns
 mod RightSides
+mod RunsAndPoints
 mod SubstitutionRuns
 mod TrimmingRuns
 mod TypedWords

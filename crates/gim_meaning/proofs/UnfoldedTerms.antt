@@ -83,7 +83,7 @@ module _ (f : Function) (valid : IsValid f) (n : ℕ) (left : List ℕ) (env : E
       each (Const w ∷ operands) may = (tt, each operands may)
 
   mutual
-    unfolded_value : (a : Operand) (term : Tree) → Unfolds f a term → MayRead f n left a → term_value (words_in env) term ≡ Some (word_of_operand env a)
+    pub unfolded_value : (a : Operand) (term : Tree) → Unfolds f a term → MayRead f n left a → term_value (words_in env) term ≡ Some (word_of_operand env a)
     unfolded_value _ _ (itself a holds) may = leaf_value f env possible.typed a holds
     unfolded_value _ _ (copied x t a term is unfolds) may =
         unfolded_value a term unfolds (reads_may x (Copy a) may is).0 ∙ possible.values x may (Copy a) is

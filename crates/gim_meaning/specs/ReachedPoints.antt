@@ -1,11 +1,11 @@
 -- Where a run comes, item by item, with the words that names have there.
-use Rattle.std.specs.Prelude.{◌≡◌, ℕ, Some, List, [], ◌∷◌, ◌++◌}
+use Rattle.std.specs.Prelude.{◌≡◌, ℕ, Some, None, List, [], ◌∷◌, ◌++◌}
 use Rattle.pm_wide.specs.Types.{Word}
 use Rattle.gim_ast.specs.declared.function.Function.{Function}
 use Rattle.gim_ast.specs.declared.function.Block.{Block}
 use Rattle.gim_ast.specs.declared.function.Stmt.{Stmt}
 use Rattle.gim_ast.specs.Functions.{block_of}
-use Rattle.gim_ast.specs.Runs.{Env, assign, rhs_value, name_type, after_phis, Place, start_of, lead_of, To}
+use Rattle.gim_ast.specs.Runs.{Env, assign, rhs_value, name_type, after_phis, Place, start_of, lead_of, To, Out}
 
 -- A run is between two blocks, or inside of one, where these statements are still to be executed and names have these words
 pub data Spot : Type 0 where
@@ -28,3 +28,20 @@ pub record Lies (f : Function) (block : Block) (stmts : List Stmt) : Type 0 wher
   pub found : block_of f block.number ≡ Some block
   pub front : List Stmt
   pub is : block.stmts ≡ front ++ stmts
+
+-- the run comes to the end of a block that leads out with the word
+pub record LeadsOut (f : Function) (args : List Word) (w : Word) : Type 0 where
+  pub block : Block
+  pub env : Env
+  pub reached : Reaches f args (Inside block [] env)
+  pub leads : lead_of env block.end ≡ Out w
+
+-- the run comes to a statement of the name that has no value
+pub record IsStuckAt (f : Function) (args : List Word) (x : ℕ) : Type 0 where
+  pub block : Block
+  pub stmt : Stmt
+  pub stmts : List Stmt
+  pub env : Env
+  pub reached : Reaches f args (Inside block (stmt ∷ stmts) env)
+  pub name : stmt.name ≡ x
+  pub none : rhs_value (name_type f stmt.name) env stmt.rhs ≡ None

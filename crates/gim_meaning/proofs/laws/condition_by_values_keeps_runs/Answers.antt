@@ -1,5 +1,0 @@
-use Rattle.gim_meaning.proofs.PossibleWords.{always_decided_keeps_runs}
-use Rattle.gim_meaning.proofs.laws.condition_by_values_keeps_runs.Goals as goal
-
-pub returns : goal.returns
-returns c = always_decided_keeps_runs

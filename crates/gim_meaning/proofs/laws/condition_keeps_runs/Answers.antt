@@ -1,5 +1,0 @@
-use Rattle.gim_meaning.proofs.NewRightSides.{condition_keeps_runs}
-use Rattle.gim_meaning.proofs.laws.condition_keeps_runs.Goals as goal
-
-pub returns : goal.returns
-returns c = condition_keeps_runs

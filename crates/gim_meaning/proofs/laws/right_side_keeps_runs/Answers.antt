@@ -1,5 +1,0 @@
-use Rattle.gim_meaning.proofs.NewRightSides.{right_side_keeps_runs}
-use Rattle.gim_meaning.proofs.laws.right_side_keeps_runs.Goals as goal
-
-pub returns : goal.returns
-returns c = right_side_keeps_runs
