@@ -1,12 +1,12 @@
 -- A new statement keeps every defined run where it has a value: nobody reads its name.
-use Rattle.std.proofs.Common.{◌≡◌, ◌≢◌, ℕ, zero, suc, Bool, true, false, cond, eqb, not, Option, Some, None, List, [], ◌∷◌, ◌++◌, ◌&&◌, ◌||◌, map, length, take, drop, insert, slice_get, is_some, refl, sym, ap, subst, ◌∙◌, arith}
+use Rattle.std.proofs.Common.{◌≡◌, ◌≢◌, ℕ, zero, suc, Bool, true, false, cond, eqb, not, Option, Some, None, List, [], ◌∷◌, ◌++◌, map, length, insert, slice_get, is_some, refl, sym, ap, subst, ◌∙◌, arith}
 use Rattle.std.specs.Prelude.{IsSome}
 use Rattle.std.specs.Option.{option_map_or}
-use Rattle.std.specs.List.{list_any, list_all, flat_map, AllByRecursion}
+use Rattle.std.specs.List.{list_any, list_all, AllByRecursion}
 use Rattle.std.proofs.lemmas.Bool.{and_parts, not-true, or_parts, or_left, or_right, both_ways, eq-eqb, eqb-true}
 use Rattle.std.proofs.lemmas.Bool.Decides.{nat_tests}
 use Rattle.std.proofs.lemmas.Option.{same_Some, none-some}
-use Rattle.pm_wide.specs.Types.{Ty, Word, bool_type, same_type}
+use Rattle.pm_wide.specs.Types.{Word, bool_type, same_type}
 use Rattle.pm_wide.specs.declared.operand.Operand.{Operand}
 use Rattle.pm_wide.specs.declared.operand.Operand.TheVariants.{Name, Const}
 use Rattle.gim_ast.specs.declared.function.Function.{Function}
@@ -16,16 +16,15 @@ use Rattle.gim_ast.specs.declared.function.Phi.{Phi}
 use Rattle.gim_ast.specs.declared.function.Stmt.{Stmt}
 use Rattle.gim_ast.specs.declared.function.NameRow.{NameRow}
 use Rattle.gim_ast.specs.Functions.{first_where, operands_of, operands_of_phi, operands_of_stmt, row_of, block_of}
-use Rattle.gim_ast.specs.WellFormed.{IsWellFormed, all_distinct, type_of, operand_holds, phi_fits, stmt_fits, rhs_fits, block_fits, numbers_of}
-use Rattle.gim_ast.specs.Runs.{Env, assign, start_env, start_word, zero_of, name_type, after_phis, rhs_value, pass_stmts, On, lead_of, Place}
-use Rattle.gim_run.specs.Slots.{stmt_holds}
+use Rattle.gim_ast.specs.WellFormed.{IsWellFormed, all_distinct, type_of, operand_holds, phi_fits, stmt_fits, rhs_fits, block_fits}
+use Rattle.gim_ast.specs.Runs.{Env, assign, start_env, start_word, zero_of, name_type, after_phis, rhs_value, pass_stmts, On, lead_of}
 use Rattle.gim_run.specs.Blocks.{phi_holds}
 use Rattle.gim_run.proofs.PhiLemmas.{block_phis}
 use Rattle.gim_changes.specs.Insertion.{changed_at, insert_in_block, row_for, with_stmt}
-use Rattle.gim_meaning.specs.ReachedPoints.{Between, Inside, Reaches, pass, Lies}
+use Rattle.gim_meaning.specs.ReachedPoints.{Inside, Reaches, pass, Lies}
 use Rattle.gim_meaning.specs.KeptRuns.{AreArgumentWords, KeepsDefinedRuns}
 use Rattle.gim_meaning.specs.SameReading.{GoesOn, HasValueThere, IsNewStmt}
-use Rattle.gim_meaning.proofs.Agreement.{AgreeOn, AllStand, OperandStands, agree_assigned, same_value, same_lead}
+use Rattle.gim_meaning.proofs.Agreement.{AgreeOn, AllStand, same_value, same_lead}
 use Rattle.gim_meaning.proofs.ListSearch.{first_of_front, first_behind}
 use Rattle.gim_meaning.proofs.Lockstep.{PassesAlike, GoesAlike, alike_keeps_runs, passes_stmt}
 use Rattle.gim_meaning.proofs.OperandsStand.{phis_stand, end_stands, TypedAlike, PhiTyped, same_phis}

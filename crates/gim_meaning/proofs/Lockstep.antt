@@ -1,5 +1,5 @@
 -- Two runs in lockstep: what each block of a changed function keeps, the whole run keeps.
-use Rattle.std.proofs.Common.{◌≡◌, ℕ, zero, suc, Option, Some, None, List, [], ◌∷◌, map, refl, sym, ap, ap₂, subst, ◌∙◌, ◌==◌}
+use Rattle.std.proofs.Common.{◌≡◌, ℕ, zero, suc, Option, Some, None, List, [], ◌∷◌, map, refl, ap, ap₂, subst, ◌∙◌, ◌==◌}
 use Rattle.std.specs.Prelude.{option_map}
 use Rattle.std.specs.Option.{option_map_or}
 use Rattle.pm_wide.specs.Types.{Word}
@@ -7,8 +7,8 @@ use Rattle.gim_ast.specs.declared.function.Function.{Function}
 use Rattle.gim_ast.specs.declared.function.Block.{Block}
 use Rattle.gim_ast.specs.declared.function.Stmt.{Stmt}
 use Rattle.gim_ast.specs.Functions.{block_of, first_where}
-use Rattle.gim_ast.specs.Runs.{Env, assign, start_env, name_type, after_phis, rhs_value, Passage, On, Stuck, pass_stmts, pass_block, Lead, To, Out, lead_of, Place, Step, Further, Ended, Outcome, Undefined, step_of_lead, step_of_passage, step_in, step_at, outcome_of, run_from, entry_of, start_of, run_of}
-use Rattle.gim_meaning.specs.ReachedPoints.{Spot, Between, Inside, Reaches, start, enter, pass, leave}
+use Rattle.gim_ast.specs.Runs.{Env, assign, start_env, name_type, after_phis, rhs_value, Passage, On, Stuck, pass_stmts, pass_block, Lead, To, Out, lead_of, Place, Further, Undefined, step_of_lead, step_of_passage, step_in, step_at, outcome_of, run_from, entry_of, start_of, run_of}
+use Rattle.gim_meaning.specs.ReachedPoints.{Between, Inside, Reaches, start, enter, pass, leave}
 use Rattle.gim_meaning.specs.KeptRuns.{AreArgumentWords, KeepsDefinedRuns}
 use Rattle.gim_meaning.proofs.Agreement.{AgreeOn}
 use Rattle.gim_meaning.proofs.ListSearch.{first_of_changed}

@@ -13,14 +13,14 @@ use Rattle.gim_ast.specs.declared.function.Rhs.{Rhs}
 use Rattle.gim_ast.specs.declared.function.End.{End}
 use Rattle.gim_ast.specs.declared.function.End.TheVariants.{Goto, If, Return}
 use Rattle.gim_ast.specs.Functions.{operands_of, operands_of_rhs, operands_of_end, operands_of_phi, row_of}
-use Rattle.gim_ast.specs.Runs.{Env, assign, start_env, name_type, after_phis, rhs_value, pass_stmts, On, lead_of, To}
+use Rattle.gim_ast.specs.Runs.{Env, assign, start_env, name_type, after_phis, rhs_value, pass_stmts, lead_of, To}
 use Rattle.gim_changes.specs.Substitution.{with_rhs_in_stmt, with_rhs_in_block, with_rhs, with_condition_in_end, with_condition_in_block, with_condition}
 use Rattle.gim_meaning.specs.KeptRuns.{AreArgumentWords, KeepsDefinedRuns}
-use Rattle.gim_meaning.specs.ReachedPoints.{Between, Inside, Reaches}
+use Rattle.gim_meaning.specs.ReachedPoints.{Inside, Reaches}
 use Rattle.gim_meaning.specs.SameReading.{GivesAlike, DecidesAlike}
 use Rattle.gim_meaning.proofs.Agreement.{AgreeOn, agree_assigned, same_value, same_lead}
 use Rattle.gim_meaning.proofs.Lockstep.{PassesAlike, GoesAlike, alike_keeps_runs, passes_alike, passes_stmt}
-use Rattle.gim_meaning.proofs.OperandsStand.{Any, all_stand, phis_stand, TypedAlike, same_phis, each_phi_typed}
+use Rattle.gim_meaning.proofs.OperandsStand.{Any, all_stand, TypedAlike, same_phis, each_phi_typed}
 use Rattle.gim_meaning.proofs.UnchangedItems.{same_rest, same_step, left_by_choice}
 
 -- phis that a change leaves in a function of the same names

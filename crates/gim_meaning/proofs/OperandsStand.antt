@@ -1,5 +1,5 @@
 -- Where all operands of a function stand, those of each block and statement that a run comes to do.
-use Rattle.std.proofs.Common.{◌≡◌, ◌≢◌, ℕ, Bool, true, false, eqb, Some, None, List, [], ◌∷◌, ◌++◌, ◌||◌, map, refl, subst, sym, ap, ◌∙◌}
+use Rattle.std.proofs.Common.{◌≡◌, ◌≢◌, ℕ, true, false, eqb, Some, List, [], ◌∷◌, ◌++◌, map, refl, subst, sym, ap, ◌∙◌}
 use Rattle.std.specs.Prelude.{⊤}
 use Rattle.std.specs.List.{list_any, flat_map, AllByRecursion}
 use Rattle.std.proofs.lemmas.Bool.{or_parts, or_left, or_right, both_ways, eq-eqb}
@@ -10,8 +10,8 @@ use Rattle.gim_ast.specs.declared.function.Function.{Function}
 use Rattle.gim_ast.specs.declared.function.Block.{Block}
 use Rattle.gim_ast.specs.declared.function.Phi.{Phi}
 use Rattle.gim_ast.specs.declared.function.Stmt.{Stmt}
-use Rattle.gim_ast.specs.Functions.{is_name, is_used, block_of, operands_of, operands_of_block, operands_of_phi, operands_of_stmt, operands_of_end}
-use Rattle.gim_ast.specs.Runs.{Env, name_type, phi_word, after_phis, assign_each}
+use Rattle.gim_ast.specs.Functions.{is_name, block_of, operands_of, operands_of_block, operands_of_phi, operands_of_stmt, operands_of_end}
+use Rattle.gim_ast.specs.Runs.{Env, name_type, after_phis, assign_each}
 use Rattle.gim_run.specs.Blocks.{phi_pair}
 use Rattle.gim_ast.proofs.ReadableLemmas.{all_left, all_right}
 use Rattle.gim_meaning.proofs.Agreement.{AgreeOn, OperandStands, AllStand, agree_assigned_each, same_phi_word}
@@ -59,9 +59,11 @@ module _ (f : Function) (Stands : ℕ → Type 0) (all : AllStand Stands (operan
   items_stand block stands =
       let phis = flat_map operands_of_phi block.phis in
       let stmts = flat_map operands_of_stmt block.stmts in
-      let front = all_left (OperandStands Stands) (phis ++ stmts) (operands_of_end block.end) stands in
-      (all_left (OperandStands Stands) phis stmts front, all_right (OperandStands Stands) phis stmts front,
-      all_right (OperandStands Stands) (phis ++ stmts) (operands_of_end block.end) stands)
+      let front = all_left (OperandStands Stands) (phis ++ stmts) (operands_of_end block.end) stands in (
+        all_left (OperandStands Stands) phis stmts front,
+        all_right (OperandStands Stands) phis stmts front,
+        all_right (OperandStands Stands) (phis ++ stmts) (operands_of_end block.end) stands,
+      )
 
   pub phis_stand : (n : ℕ) (block : Block) → block_of f n ≡ Some block → AllStand Stands (flat_map operands_of_phi block.phis)
   phis_stand n block found = (items_stand block (block_stands n block found)).0

@@ -1,5 +1,5 @@
 -- What holds of all words that names may have at a point holds whenever a run comes there.
-use Rattle.std.proofs.Common.{◌≡◌, ℕ, Bool, false, Some, List, [], ◌∷◌, ◌++◌, map, length, slice_get, refl, sym, ap, subst, ◌∙◌}
+use Rattle.std.proofs.Common.{◌≡◌, ℕ, Bool, false, Some, List, [], ◌∷◌, ◌++◌, map, length, slice_get, sym, ap, subst, ◌∙◌}
 use Rattle.std.specs.List.{AllByRecursion}
 use Rattle.std.proofs.lemmas.Option.{same_Some}
 use Rattle.pm_ops.specs.declared.code.Code.{Code}
@@ -15,7 +15,7 @@ use Rattle.gim_ast.specs.declared.function.End.TheVariants.{Goto, If, Return}
 use Rattle.gim_ast.specs.Functions.{stmt_name, block_of}
 use Rattle.gim_ast.specs.Readable.{Use, uses_in, IsReadable, IsReadableUse, IsValid}
 use Rattle.gim_ast.specs.WellFormed.{IsWellFormed}
-use Rattle.gim_ast.specs.Runs.{Env, word_of_operand, rhs_value, name_type, holds}
+use Rattle.gim_ast.specs.Runs.{Env, rhs_value, name_type, holds}
 use Rattle.gim_ast.proofs.ReadableLemmas.{support_is_readable}
 use Rattle.gim_changes.specs.Insertion.{with_stmt}
 use Rattle.gim_changes.specs.Substitution.{put_in_all, with_rhs, with_condition}

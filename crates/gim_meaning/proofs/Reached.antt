@@ -1,5 +1,5 @@
 -- Where a run comes it stands in a block of the function, before its last statements.
-use Rattle.std.proofs.Common.{◌≡◌, ℕ, Option, Some, None, List, [], ◌∷◌, ◌++◌, refl, sym, ap, subst, ◌∙◌, append_assoc}
+use Rattle.std.proofs.Common.{◌≡◌, ℕ, Option, Some, None, List, [], ◌∷◌, ◌++◌, refl, sym, subst, ◌∙◌, append_assoc}
 use Rattle.std.specs.Prelude.{⊤}
 use Rattle.std.specs.Option.{option_map_or}
 use Rattle.std.specs.Prelude.{◌==◌}
@@ -9,7 +9,7 @@ use Rattle.gim_ast.specs.declared.function.Function.{Function}
 use Rattle.gim_ast.specs.declared.function.Block.{Block}
 use Rattle.gim_ast.specs.declared.function.Stmt.{Stmt}
 use Rattle.gim_ast.specs.Functions.{block_of}
-use Rattle.gim_ast.specs.Runs.{Env, assign, rhs_value, name_type, pass_stmts, Passage, On, Stuck, Place, lead_of, To, start_of}
+use Rattle.gim_ast.specs.Runs.{Env, assign, rhs_value, name_type, pass_stmts, On, Stuck}
 use Rattle.gim_meaning.specs.ReachedPoints.{Spot, Between, Inside, Reaches, start, enter, pass, leave, Lies}
 use Rattle.gim_meaning.proofs.ListSearch.{found_passes}
 

@@ -1,9 +1,9 @@
 -- Where a run comes, each readable name has the value that its operation gives: by induction over the run.
-use Rattle.std.proofs.Common.{◌≡◌, ◌≢◌, ℕ, Bool, true, false, cond, eqb, Option, Some, None, List, [], ◌∷◌, ◌++◌, ◌⊎◌, ◌||◌, map, refl, sym, ap, subst, ◌∙◌, ⊎_elim, inl, inr}
+use Rattle.std.proofs.Common.{◌≡◌, ◌≢◌, ℕ, Bool, true, false, cond, eqb, Some, List, [], ◌∷◌, ◌++◌, ◌||◌, map, refl, sym, ap, subst, ◌∙◌, ⊎_elim}
 use Rattle.std.specs.Bool.{IsTrue}
-use Rattle.std.specs.Prelude.{⊤, option_map, ◌==◌}
+use Rattle.std.specs.Prelude.{option_map, ◌==◌}
 use Rattle.std.specs.Option.{option_map_or}
-use Rattle.std.specs.List.{list_any, AllByRecursion}
+use Rattle.std.specs.List.{AllByRecursion}
 use Rattle.std.proofs.lemmas.Bool.{or_left, or_right, both_ways, eq-eqb, eqb-true}
 use Rattle.std.proofs.lemmas.Option.{same_Some, none-some}
 use Rattle.pm_wide.specs.Types.{Word}
@@ -20,12 +20,12 @@ use Rattle.gim_ast.specs.Functions.{phi_name, stmt_name, assigned_in, block_of, 
 use Rattle.gim_ast.specs.WellFormed.{IsWellFormed, is_among}
 use Rattle.gim_ast.specs.Paths.{Stretch, stretch_of, flow_of, stretch_at, Path, enter, item, jump}
 use Rattle.gim_ast.specs.Paths as paths
-use Rattle.gim_ast.specs.Readable.{names_among, read_for, Supports, operand, Fresh, is_initial, IsReadable, IsValid}
-use Rattle.gim_ast.specs.Runs.{Env, assign, assign_each, rhs_value, name_type, phi_word, after_phis, start_env, Lead, To, Out, lead_of, holds, Place, start_of, entry_of}
+use Rattle.gim_ast.specs.Readable.{names_among, read_for, Supports, operand, Fresh, is_initial, IsReadable}
+use Rattle.gim_ast.specs.Runs.{Env, assign, assign_each, rhs_value, name_type, phi_word, To, lead_of, holds, start_of, entry_of}
 use Rattle.gim_meaning.specs.ReachedPoints.{Spot, Between, Inside, Reaches, Lies}
 use Rattle.gim_meaning.specs.ReachedPoints as points
 use Rattle.gim_meaning.specs.PresentValues.{HasItsValue}
-use Rattle.gim_meaning.proofs.Agreement.{AgreeOn, AllStand, OperandStands, same_value}
+use Rattle.gim_meaning.proofs.Agreement.{AgreeOn, AllStand, same_value}
 use Rattle.gim_meaning.proofs.ListSearch.{first_of_changed}
 use Rattle.gim_meaning.proofs.Reached.{lies, found_by_number, number_of_found}
 use Rattle.gim_meaning.proofs.RightSides.{right_at, no_right_at_phis, HasNoRight, no_right_of_initial}

@@ -1,8 +1,8 @@
 -- Removal of what is unused keeps every defined run: no other word depends on it.
-use Rattle.std.proofs.Common.{◌≡◌, ◌≢◌, ℕ, zero, suc, Bool, true, false, cond, eqb, Option, Some, None, List, [], ◌∷◌, map, length, not, refl, sym, ap, subst, ◌∙◌, ◌⊎◌, inl, inr, ⊎_elim}
+use Rattle.std.proofs.Common.{◌≡◌, ℕ, zero, suc, Bool, true, false, cond, eqb, Option, Some, None, List, [], ◌∷◌, map, length, not, refl, sym, ap, subst, ◌∙◌, ◌⊎◌, inl, inr, ⊎_elim}
 use Rattle.std.specs.Prelude.{filter}
 use Rattle.std.specs.Option.{option_map_or}
-use Rattle.std.specs.List.{flat_map, AllByRecursion}
+use Rattle.std.specs.List.{flat_map}
 use Rattle.std.proofs.lemmas.Bool.{eqb-true, not-true}
 use Rattle.std.proofs.lemmas.Option.{same_Some, none-some}
 use Rattle.pm_wide.specs.Types.{Word}
@@ -10,12 +10,12 @@ use Rattle.gim_ast.specs.declared.function.Function.{Function}
 use Rattle.gim_ast.specs.declared.function.Block.{Block}
 use Rattle.gim_ast.specs.declared.function.Phi.{Phi}
 use Rattle.gim_ast.specs.declared.function.Stmt.{Stmt}
-use Rattle.gim_ast.specs.Functions.{is_used, operands_of, operands_of_phi, block_of, row_of, assigned}
-use Rattle.gim_ast.specs.Runs.{Env, assign, assign_each, start_env, name_type, phi_word, after_phis, rhs_value, pass_stmts, On}
+use Rattle.gim_ast.specs.Functions.{is_used, operands_of, operands_of_phi, row_of, assigned}
+use Rattle.gim_ast.specs.Runs.{Env, assign, assign_each, start_env, name_type, phi_word, rhs_value, pass_stmts, On}
 use Rattle.gim_changes.specs.Removal.{phi_stays, stmt_stays, without_in_block, without, last_unused, unused, last_or, pruned_by, pruned}
 use Rattle.gim_run.specs.Blocks.{phi_pair}
 use Rattle.gim_ast.proofs.ReadableLemmas.{all_left, all_right}
-use Rattle.gim_meaning.specs.ReachedPoints.{Between, Inside, Reaches}
+use Rattle.gim_meaning.specs.ReachedPoints.{Inside, Reaches}
 use Rattle.gim_meaning.specs.KeptRuns.{KeepsDefinedRuns}
 use Rattle.gim_meaning.proofs.Agreement.{AgreeOn, AllStand, OperandStands, agree_assigned, same_value, same_lead, same_phi_word}
 use Rattle.gim_meaning.proofs.KeptInARow.{keeps_itself, keeps_through}

@@ -14,8 +14,8 @@ use Rattle.gim_ast.specs.declared.function.Phi.{Phi}
 use Rattle.gim_ast.specs.declared.function.Stmt.{Stmt}
 use Rattle.gim_ast.specs.declared.function.NameRow.{NameRow}
 use Rattle.gim_ast.specs.declared.function.Rhs.{Rhs}
-use Rattle.gim_ast.specs.Functions.{first_where, phi_name, stmt_name, assigned_in, assigned, stmts_of, right_of, row_of, block_of, is_used}
-use Rattle.gim_ast.specs.WellFormed.{IsWellFormed, all_distinct, is_assigned, same_text, base_holds, row_stands, names_hold}
+use Rattle.gim_ast.specs.Functions.{first_where, phi_name, stmt_name, assigned_in, assigned, right_of, row_of, block_of, is_used}
+use Rattle.gim_ast.specs.WellFormed.{IsWellFormed, all_distinct, is_assigned, same_text, base_holds, row_stands}
 use Rattle.gim_ast.specs.Readable.{is_initial}
 use Rattle.gim_meaning.proofs.ListSearch.{first_of_front, first_behind, found_passes, all_of_found}
 use Rattle.gim_meaning.specs.ReachedPoints.{Lies}

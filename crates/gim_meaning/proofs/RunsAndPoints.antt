@@ -1,5 +1,5 @@
 -- A run ends as the last point tells to which it comes, and where a run comes tells how it goes on.
-use Rattle.std.proofs.Common.{◌≡◌, ℕ, zero, suc, ◌+◌, Option, Some, None, List, [], ◌∷◌, refl, sym, ap, subst, ◌∙◌, arith}
+use Rattle.std.proofs.Common.{◌≡◌, ℕ, zero, suc, ◌+◌, Option, Some, None, List, [], ◌∷◌, refl, ap, subst, ◌∙◌, arith}
 use Rattle.std.specs.Prelude.{⊤}
 use Rattle.std.specs.Option.{option_map_or}
 use Rattle.pm_wide.specs.Types.{Word}
@@ -92,10 +92,12 @@ module _ (f : Function) (args : List Word) where
       let so_far = goes_on_from (Inside block (stmt ∷ stmts) e) before in
       (so_far.0, λ fuel. so_far.1 fuel ∙ ap (λ passage. outcome_of (run_from f fuel) (step_of_passage block passage)) (passes_stmt f stmt stmts e w value))
   goes_on_from _ (leave block e n leads before) =
-      let so_far = goes_on_from (Inside block [] e) before in
-      (suc so_far.0, λ fuel.
-      let same : suc so_far.0 + fuel ≡ so_far.0 + suc fuel = omega arith in
-      ap (run_of f args) same ∙ so_far.1 fuel ∙ ap (λ lead. outcome_of (run_from f fuel) (step_of_lead block.number e lead)) leads)
+      let so_far = goes_on_from (Inside block [] e) before in (
+        suc so_far.0,
+        λ fuel.
+            let same : suc so_far.0 + fuel ≡ so_far.0 + suc fuel = omega arith in
+            ap (run_of f args) same ∙ so_far.1 fuel ∙ ap (λ lead. outcome_of (run_from f fuel) (step_of_lead block.number e lead)) leads,
+      )
 
   pub returns_there : (w : Word) → LeadsOut f args w → (fuel : ℕ) × (run_of f args fuel ≡ Returned w)
   returns_there w out =
@@ -104,7 +106,9 @@ module _ (f : Function) (args : List Word) where
 
   pub undefined_there : (x : ℕ) → IsStuckAt f args x → (fuel : ℕ) × (run_of f args fuel ≡ Undefined x)
   undefined_there x stuck =
-      let so_far = goes_on_from (Inside stuck.block (stuck.stmt ∷ stuck.stmts) stuck.env) stuck.reached in
-      (so_far.0 + 1, so_far.1 0
-      ∙ ap (λ found. outcome_of (run_from f 0) (step_of_passage stuck.block (option_map_or (λ w. pass_stmts f stuck.stmts (assign stuck.stmt.name w stuck.env)) found (Stuck stuck.stmt.name)))) stuck.none
-      ∙ ap Undefined stuck.name)
+      let so_far = goes_on_from (Inside stuck.block (stuck.stmt ∷ stuck.stmts) stuck.env) stuck.reached in (
+        so_far.0 + 1,
+        so_far.1 0
+            ∙ ap (λ found. outcome_of (run_from f 0) (step_of_passage stuck.block (option_map_or (λ w. pass_stmts f stuck.stmts (assign stuck.stmt.name w stuck.env)) found (Stuck stuck.stmt.name)))) stuck.none
+            ∙ ap Undefined stuck.name,
+      )

@@ -1,11 +1,10 @@
 -- An operand put for a name keeps every defined run where it has the name's word at each use.
-use Rattle.std.proofs.Common.{◌≡◌, ℕ, ◌+◌, Bool, true, false, cond, eqb, ◌&&◌, Option, Some, None, List, [], ◌∷◌, ◌++◌, ◌⊎◌, map, length, refl, sym, ap, ap₂, subst, ◌∙◌, inl, inr}
+use Rattle.std.proofs.Common.{◌≡◌, ℕ, ◌+◌, Bool, true, false, cond, eqb, Option, Some, List, [], ◌∷◌, ◌++◌, ◌⊎◌, map, length, refl, sym, ap, subst, ◌∙◌, inl, inr}
 use Rattle.std.specs.Prelude.{⊤}
 use Rattle.std.specs.Option.{option_map_or}
 use Rattle.std.specs.List.{flat_map, AllByRecursion}
-use Rattle.std.proofs.lemmas.Bool.{and_parts, both_ways, eq-eqb, eqb-true}
+use Rattle.std.proofs.lemmas.Bool.{and_parts, eq-eqb, eqb-true}
 use Rattle.std.proofs.lemmas.Option.{same_Some, none-some}
-use Rattle.pm_ops.specs.declared.code.Code.{Code}
 use Rattle.pm_wide.specs.Types.{Ty, Word, bool_type}
 use Rattle.pm_wide.specs.Operations.{operation_value}
 use Rattle.pm_wide.specs.declared.operand.Operand.{Operand}
@@ -21,16 +20,16 @@ use Rattle.gim_ast.specs.declared.function.End.TheVariants.{Goto, If, Return}
 use Rattle.gim_ast.specs.Functions.{first_where, stmt_name, operands_of_rhs, operands_of_stmt, operands_of_end, row_of, block_of}
 use Rattle.gim_ast.specs.WellFormed.{IsWellFormed, is_empty, entry_has_no_phi}
 use Rattle.gim_ast.specs.Readable.{Use, names_among, uses_at, uses_in_phi, uses_in_phis, uses_in_stmts, uses_in_block, uses_in}
-use Rattle.gim_ast.specs.Runs.{Env, assign, assign_each, start_env, word_of_operand, zero_of, name_type, phi_word, after_phis, rhs_value, holds, pass_stmts, On, lead_of, To, Out, Place, start_of, entry_of}
+use Rattle.gim_ast.specs.Runs.{Env, assign, assign_each, start_env, word_of_operand, zero_of, name_type, phi_word, after_phis, rhs_value, pass_stmts, lead_of, To, Out, Place, start_of, entry_of}
 use Rattle.gim_run.specs.Blocks.{phi_pair}
 use Rattle.gim_changes.specs.Substitution.{put, put_in_rhs, put_in_end, put_in_arg, put_in_phi, put_in_stmt, put_in_block, put_in_all}
 use Rattle.gim_ast.proofs.ReadableLemmas.{all_left, all_right}
-use Rattle.gim_meaning.specs.ReachedPoints.{Spot, Between, Inside, Reaches, start, enter, pass, leave, Lies}
+use Rattle.gim_meaning.specs.ReachedPoints.{Spot, Between, Inside, Reaches, start, enter, pass, leave}
 use Rattle.gim_meaning.specs.KeptRuns.{AreArgumentWords, KeepsDefinedRuns}
 use Rattle.gim_meaning.specs.SameReading.{ReadsAlike}
 use Rattle.gim_meaning.proofs.Agreement.{AgreeOn, agree_assigned, agree_assigned_each}
 use Rattle.gim_meaning.proofs.ListSearch.{parts_of_found}
-use Rattle.gim_meaning.proofs.Lockstep.{PassesAlike, GoesAlike, alike_keeps_runs, passes_alike, passes_stmt}
+use Rattle.gim_meaning.proofs.Lockstep.{GoesAlike, alike_keeps_runs, passes_alike, passes_stmt}
 use Rattle.gim_meaning.proofs.OperandsStand.{Any, TypedAlike}
 use Rattle.gim_meaning.proofs.Reached.{lies}
 
@@ -192,11 +191,12 @@ module _ (f : Function) (well : IsWellFormed f) (x : ℕ) (by : Operand) (alike 
         let n = block.number in
         let uses = (uses_of_block (ReadsAlike f x by) block (alike_in n block there.found)).1 in
         let own = uses_of_stmt (ReadsAlike f x by) n (1 + length block.phis) there.front stmt stmts (subst (λ ss. AllByRecursion (ReadsAlike f x by) (uses_in_stmts n (1 + length block.phis) ss)) there.is uses) in
-        let among = names_at (ReadsAlike f x by) n own.0 n (map stmt_name (stmt ∷ stmts)) (alike_there block (stmt ∷ stmts) e reached n own.0 n refl) (operands_of_stmt stmt) own.1 in
-        (assign stmt.name w d,
-        passes_stmt (put_in_all x by f) (put_in_stmt x by stmt) (map (put_in_stmt x by) stmts) d w
-        (ap (λ t. rhs_value t d (put_in_rhs x by stmt.rhs)) (put_typed stmt.name) ∙ put_value x by e d agree (name_type f stmt.name) stmt.rhs among ∙ value),
-        agree_assigned Any e d stmt.name w agree)
+        let among = names_at (ReadsAlike f x by) n own.0 n (map stmt_name (stmt ∷ stmts)) (alike_there block (stmt ∷ stmts) e reached n own.0 n refl) (operands_of_stmt stmt) own.1 in (
+          assign stmt.name w d,
+          passes_stmt (put_in_all x by f) (put_in_stmt x by stmt) (map (put_in_stmt x by) stmts) d w
+              (ap (λ t. rhs_value t d (put_in_rhs x by stmt.rhs)) (put_typed stmt.name) ∙ put_value x by e d agree (name_type f stmt.name) stmt.rhs among ∙ value),
+          agree_assigned Any e d stmt.name w agree,
+        )
 
     put_ends : (block : Block) (e d : Env) → Reaches f args (Inside block [] e) → AgreeOn Any e d → lead_of d (put_in_end x by block.end) ≡ lead_of e block.end
     put_ends block e d reached agree =

@@ -1,5 +1,5 @@
 -- Trimming keeps every defined run: each name that stands keeps its row.
-use Rattle.std.proofs.Common.{◌≡◌, ℕ, Bool, true, false, cond, eqb, Option, Some, None, List, [], ◌∷◌, ◌++◌, ◌||◌, map, refl, sym, ap, subst, ◌∙◌, map-id}
+use Rattle.std.proofs.Common.{◌≡◌, ℕ, Bool, true, false, cond, eqb, Option, Some, List, [], ◌∷◌, map, refl, sym, ap, subst, map-id}
 use Rattle.std.specs.Prelude.{filter}
 use Rattle.std.specs.Option.{option_map_or}
 use Rattle.std.specs.List.{list_any, AllByRecursion}
@@ -15,7 +15,7 @@ use Rattle.gim_ast.specs.Runs.{start_env, start_word, name_type, zero_of}
 use Rattle.gim_changes.specs.Trimming.{stands_in, is_empty_text, row_stays, trimmed, tidied}
 use Rattle.gim_changes.specs.Removal.{pruned}
 use Rattle.gim_meaning.specs.KeptRuns.{KeepsDefinedRuns}
-use Rattle.gim_meaning.proofs.Agreement.{AgreeOn, AllStand, same_lead}
+use Rattle.gim_meaning.proofs.Agreement.{AllStand, same_lead}
 use Rattle.gim_meaning.proofs.KeptInARow.{keeps_through}
 use Rattle.gim_meaning.proofs.Lockstep.{GoesAlike, alike_keeps_runs}
 use Rattle.gim_meaning.proofs.OperandsStand.{used_stand, weaker_stand, phis_stand, end_stands, TypedAlike, PhiTyped, same_phis}

@@ -1,18 +1,16 @@
 -- Where a run comes each name has a word of its type.
-use Rattle.std.proofs.Common.{◌≡◌, ℕ, zero, suc, ◌<◌, ◌^◌, Bool, true, false, cond, eqb, Option, Some, None, List, [], ◌∷◌, ◌++◌, ◌&&◌, ◌||◌, not, map, length, refl, sym, ap, subst, ◌∙◌, ⊎_elim, arith, pow_pos}
-use Rattle.std.specs.Prelude.{⊤, All, nat_lt}
+use Rattle.std.proofs.Common.{◌≡◌, ℕ, zero, suc, ◌^◌, Bool, true, false, cond, eqb, Option, Some, None, List, [], ◌∷◌, ◌++◌, ◌&&◌, ◌||◌, not, map, refl, sym, ap, subst, ◌∙◌, ⊎_elim, arith, pow_pos}
+use Rattle.std.specs.Prelude.{All, nat_lt}
 use Rattle.std.specs.Option.{option_map_or}
-use Rattle.std.specs.List.{list_any, list_all, flat_map, AllByRecursion}
+use Rattle.std.specs.List.{list_all, AllByRecursion}
 use Rattle.std.proofs.lemmas.Bool.{and_parts, or_cases, both_ways, eqb-true}
 use Rattle.std.proofs.lemmas.Bool.Decides.{nat_tests}
 use Rattle.std.proofs.lemmas.List.Folds.{list_all-append}
 use Rattle.pm_wide.specs.Types.{Ty, Word, IsType, IsWord, bool_type, same_type}
 use Rattle.pm_wide.specs.Typing.{well_typed_operation}
-use Rattle.pm_wide.specs.Operations.{operation_value}
 use Rattle.pm_wide.specs.declared.operand.Operand.{Operand}
 use Rattle.pm_wide.specs.declared.operand.Operand.TheVariants.{Name, Const}
 use Rattle.pm_wide.proofs.Results.{same_type_is, operation_word}
-use Rattle.pm_ops.specs.declared.code.Code.{Code}
 use Rattle.gim_ast.specs.declared.function.Function.{Function}
 use Rattle.gim_ast.specs.declared.function.Block.{Block}
 use Rattle.gim_ast.specs.declared.function.Decl.{Decl}
@@ -22,10 +20,10 @@ use Rattle.gim_ast.specs.declared.function.NameRow.{NameRow}
 use Rattle.gim_ast.specs.declared.function.Rhs.{Rhs}
 use Rattle.gim_ast.specs.declared.function.Rhs.TheVariants.{Copy, Op}
 use Rattle.gim_ast.specs.Functions.{first_where, row_of, block_of, operands_of_rhs, operands_of_phi}
-use Rattle.gim_ast.specs.WellFormed.{IsWellFormed, same_text, declares_as, is_type_of, types_hold, base_holds, row_stands, is_word, type_of, operand_holds, rhs_fits, phi_fits}
+use Rattle.gim_ast.specs.WellFormed.{IsWellFormed, same_text, declares_as, is_type_of, base_holds, row_stands, is_word, type_of, operand_holds, rhs_fits, phi_fits}
 use Rattle.gim_ast.specs.Identifiers.{anonymous}
 use Rattle.gim_ast.specs.Runs.{Env, assign, assign_each, argument_of, start_word, start_env, word_of_operand, zero_of, name_type, phi_word, rhs_value, start_of}
-use Rattle.gim_run.specs.Slots.{stmt_holds, env_of}
+use Rattle.gim_run.specs.Slots.{stmt_holds}
 use Rattle.gim_run.specs.Blocks.{phi_holds, block_holds, phi_pair}
 use Rattle.gim_run.proofs.SlotLemmas.{type_at_name, stmt_typed, stmt_known}
 use Rattle.gim_run.proofs.StartLemmas.{words_at_start, typed_at_start}
@@ -34,7 +32,7 @@ use Rattle.gim_run.proofs.HoldLemmas.{blocks_hold}
 use Rattle.gim_meaning.specs.KeptRuns.{AreArgumentWords}
 use Rattle.gim_meaning.specs.PresentValues.{AreTyped}
 use Rattle.gim_meaning.specs.ReachedPoints.{Spot, Between, Inside, Reaches, start, enter, pass, leave, Lies}
-use Rattle.gim_meaning.proofs.ListSearch.{found_passes, all_of_found, all_in_middle}
+use Rattle.gim_meaning.proofs.ListSearch.{all_of_found, all_in_middle}
 use Rattle.gim_meaning.proofs.Reached.{lies}
 
 abbrev pub IsTypedWord : Ty → Word → Type 0

@@ -1,5 +1,5 @@
 -- Items that a change leaves: statements pass on alike.
-use Rattle.std.proofs.Common.{◌≡◌, ℕ, Bool, true, false, cond, Some, List, [], ◌∷◌, refl, ap, ◌∙◌}
+use Rattle.std.proofs.Common.{◌≡◌, ℕ, Bool, true, false, cond, Some, List, ◌∷◌, refl, ap, ◌∙◌}
 use Rattle.pm_wide.specs.Types.{Word}
 use Rattle.gim_ast.specs.declared.function.Function.{Function}
 use Rattle.gim_ast.specs.declared.function.Block.{Block}
@@ -19,12 +19,13 @@ module _ (f g : Function) (Stands : ℕ → Type 0) (all : AllStand Stands (oper
       rhs_value (name_type f stmt.name) e stmt.rhs ≡ Some w →
       (next : Env) × (pass_stmts g (stmt ∷ after) d ≡ pass_stmts g after next) × AgreeOn Stands (assign stmt.name w e) next
   same_step args block stmt stmts after e d w reached agree value =
-      let there = lies reached in
-      (assign stmt.name w d,
-      passes_stmt g stmt after d w
-      (ap (λ t. rhs_value t d stmt.rhs) (typed block stmt stmts there)
-      ∙ same_value Stands e d agree (name_type f stmt.name) stmt.rhs (stmt_stands f Stands all block stmt stmts there) ∙ value),
-      agree_assigned Stands e d stmt.name w agree)
+      let there = lies reached in (
+        assign stmt.name w d,
+        passes_stmt g stmt after d w
+            (ap (λ t. rhs_value t d stmt.rhs) (typed block stmt stmts there)
+            ∙ same_value Stands e d agree (name_type f stmt.name) stmt.rhs (stmt_stands f Stands all block stmt stmts there) ∙ value),
+        agree_assigned Stands e d stmt.name w agree,
+      )
 
   -- the last statements of a block, left as they are
   pub same_rest : (args : List Word) (block : Block) (stmts : List Stmt) (e after d : Env) → Reaches f args (Inside block stmts e) → pass_stmts f stmts e ≡ On after → AgreeOn Stands e d →

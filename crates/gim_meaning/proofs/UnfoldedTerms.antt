@@ -1,21 +1,20 @@
 -- A term that stands for an operand has the operand's word; so what holds of terms holds of functions.
 use Rattle.std.proofs.Common.{◌≡◌, ℕ, ◌+◌, Bool, true, false, cond, Option, Some, None, List, [], ◌∷◌, ◌++◌, ◌&&◌, map, length, is_some, refl, sym, ap, ap₂, subst, ◌∙◌, arith, append-nil}
-use Rattle.std.specs.Prelude.{⊤, IsSome, ◌==◌, slice_get}
+use Rattle.std.specs.Prelude.{IsSome, ◌==◌, slice_get}
 use Rattle.std.specs.Option.{option_map_or}
 use Rattle.std.specs.List.{list_all, AllByRecursion}
 use Rattle.std.proofs.lemmas.Bool.{and_parts, or_left, or_right, both_ways, eq-eqb}
-use Rattle.std.proofs.lemmas.Bool.Decides.{nat_tests}
 use Rattle.std.proofs.lemmas.Option.{same_Some}
 use Rattle.pm_ops.specs.Codes.{is_comparison_code}
 use Rattle.pm_ops.specs.declared.code.Code.{Code}
 use Rattle.pm_ops.specs.declared.code.Code.TheVariants.{Eq, Ne, Lt, Le, Gt, Ge}
-use Rattle.pm_wide.specs.Types.{Ty, Word, IsType, IsWord, same_type, bool_type}
+use Rattle.pm_wide.specs.Types.{Ty, Word, IsWord, same_type, bool_type}
 use Rattle.pm_wide.specs.Operations.{operation_value}
 use Rattle.pm_wide.specs.declared.operand.Operand.{Operand}
 use Rattle.pm_wide.specs.declared.operand.Operand.TheVariants.{Name, Const}
 use Rattle.pm_wide.proofs.Results.{same_type_is}
 use Rattle.pm_term.specs.Terms.{term_value, term_values, operation_on, with_value}
-use Rattle.pm_term.specs.Trees.{Tree, node, Trees, nil, cons, leaf}
+use Rattle.pm_term.specs.Trees.{Tree, Trees, leaf}
 use Rattle.gim_ast.specs.declared.function.Function.{Function}
 use Rattle.gim_ast.specs.declared.function.Block.{Block}
 use Rattle.gim_ast.specs.declared.function.Decl.{Decl}
@@ -23,10 +22,9 @@ use Rattle.gim_ast.specs.declared.function.Stmt.{Stmt}
 use Rattle.gim_ast.specs.declared.function.NameRow.{NameRow}
 use Rattle.gim_ast.specs.declared.function.Rhs.{Rhs}
 use Rattle.gim_ast.specs.declared.function.Rhs.TheVariants.{Copy, Op}
-use Rattle.gim_ast.specs.declared.function.End.{End}
-use Rattle.gim_ast.specs.declared.function.End.TheVariants.{Goto, If, Return}
+use Rattle.gim_ast.specs.declared.function.End.TheVariants.{If}
 use Rattle.gim_ast.specs.Functions.{right_of, row_of, block_of, stmt_name, operands_of_rhs, operands_of_stmt, operands_of_end}
-use Rattle.gim_ast.specs.Readable.{names_among, read_for, Supports, operand, IsReadable, Use, uses_at, uses_in_stmts, uses_in_block, uses_in, IsReadableUse, IsValid}
+use Rattle.gim_ast.specs.Readable.{names_among, operand, IsReadable, Use, uses_in_stmts, uses_in_block, uses_in, IsReadableUse, IsValid}
 use Rattle.gim_ast.specs.WellFormed.{is_among, type_of, operand_holds, end_fits}
 use Rattle.gim_ast.specs.Runs.{Env, word_of_operand, zero_of, rhs_value, name_type, holds}
 use Rattle.gim_run.specs.Blocks.{phi_holds, end_holds, block_holds}
@@ -35,9 +33,9 @@ use Rattle.gim_ast.proofs.ReadableLemmas.{support_is_readable}
 use Rattle.gim_changes.specs.Substitution.{put_in_all, with_rhs, with_condition}
 use Rattle.gim_changes.specs.Insertion.{with_stmt}
 use Rattle.gim_meaning.specs.KeptRuns.{KeepsDefinedRuns}
-use Rattle.gim_meaning.specs.PresentValues.{AreTyped, HasItsValue, ArePossible}
+use Rattle.gim_meaning.specs.PresentValues.{AreTyped, ArePossible}
 use Rattle.gim_meaning.specs.ReachedPoints.{Lies}
-use Rattle.gim_meaning.specs.SameReading.{AlwaysReadsAlike, AlwaysGivesAlike, AlwaysDecidesAlike, GoesOn, AlwaysHasValueThere, IsNewStmt}
+use Rattle.gim_meaning.specs.SameReading.{AlwaysReadsAlike, AlwaysDecidesAlike, AlwaysHasValueThere, IsNewStmt}
 use Rattle.gim_meaning.specs.Unfolding.{Unfolds, itself, copied, computed, EachUnfolds, no_operand, one_more, UnfoldsRight, MayRead, IsOfSupport, words_in, AreWordsOfNames, Refines, IsDefinedWith}
 use Rattle.gim_meaning.proofs.ListSearch.{parts_of_found}
 use Rattle.gim_meaning.proofs.PossibleWords.{always_read_alike_keeps_runs, always_given_keeps_runs, always_decided_keeps_runs, always_defined_keeps_runs}
