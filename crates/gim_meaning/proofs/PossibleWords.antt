@@ -23,7 +23,8 @@ use Rattle.gim_meaning.specs.KeptRuns.{AreArgumentWords, KeepsDefinedRuns}
 use Rattle.gim_meaning.specs.PresentValues.{ArePossible}
 use Rattle.gim_meaning.specs.ReachedPoints.{Inside, Reaches, Lies}
 use Rattle.gim_meaning.specs.SameReading.{ReadsAlike, GivesAlike, DecidesAlike, AlwaysReadsAlike, AlwaysGivesAlike, AlwaysDecidesAlike, FollowsFrom, AlwaysHasValueThere, IsNewStmt}
-use Rattle.gim_meaning.proofs.InsertionRuns.{block_at, insertion_keeps_runs}
+use Rattle.gim_meaning.proofs.BlockOfPlace.{block_at}
+use Rattle.gim_meaning.proofs.InsertionRuns.{insertion_keeps_runs}
 use Rattle.gim_meaning.proofs.NewRightSides.{right_side_keeps_runs, condition_keeps_runs}
 use Rattle.gim_meaning.proofs.OnePlace.{one_place, head_or}
 use Rattle.gim_meaning.proofs.ReadableValues.{readable_has_its_value}

@@ -18,6 +18,7 @@ ghost use Rattle.gim_ast.specs.declared.function.Stmt.{Stmt};
 ghost use Rattle.gim_ast.specs.Functions.{block_of, stmt_name, operands_of_rhs, operands_of_stmt};
 ghost use Rattle.gim_ast.specs.Readable.{Use, uses_in, IsValid};
 ghost use Rattle.gim_ast.specs.Runs.{Env, name_type, rhs_value, word_of_operand};
+ghost use Rattle.gim_ast.specs.WellFormed.{IsWellFormed};
 ghost use Rattle.gim_changes.specs.Insertion.{with_stmt};
 ghost use Rattle.gim_changes.specs.Substitution.{put_in_all, with_rhs, with_condition};
 ghost use Rattle.gim_meaning.specs.KeptRuns.{KeepsDefinedRuns};
@@ -78,4 +79,17 @@ pub fn insertion_keeps_runs()
         AllByRecursion (MayRead f home.number []) (operands_of_stmt stmt) →
         UnfoldsRight f bool_type (Op old (a ∷ b ∷ [])) before → UnfoldsRight f decl.ty stmt.rhs part →
         IsDefinedWith before part → KeepsDefinedRuns f (with_stmt place (length home.stmts) stmt decl f) }
+{}
+
+/// Past such a statement terms stand for what they stood for, and the new name stands for what its right side does.
+pub fn insertion_keeps_terms()
+    ensures operands { (f : Function) (place : ℕ) (home : Block) (before : ℕ) (stmt : Stmt) (decl : Decl) (a : Operand) (term : Tree) →
+        IsWellFormed f → slice_get f.blocks place ≡ Some home → IsNewStmt f stmt →
+        Unfolds f a term → Unfolds (with_stmt place before stmt decl f) a term }
+    ensures right_sides { (f : Function) (place : ℕ) (home : Block) (before : ℕ) (stmt : Stmt) (decl : Decl) (t : Ty) (rhs : Rhs) (term : Tree) →
+        IsWellFormed f → slice_get f.blocks place ≡ Some home → IsNewStmt f stmt →
+        UnfoldsRight f t rhs term → UnfoldsRight (with_stmt place before stmt decl f) t rhs term }
+    ensures new { (f : Function) (place : ℕ) (home : Block) (before : ℕ) (stmt : Stmt) (decl : Decl) (t : Ty) (term : Tree) →
+        IsWellFormed f → slice_get f.blocks place ≡ Some home → IsNewStmt f stmt →
+        UnfoldsRight f decl.ty stmt.rhs term → Unfolds (with_stmt place before stmt decl f) (Name stmt.name t) term }
 {}
