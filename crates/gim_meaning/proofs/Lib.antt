@@ -15,6 +15,7 @@ mod RemovalRuns
 mod RightSides
 mod RunsAndPoints
 mod SubstitutionRuns
+mod SumsAndDifferences
 mod TermsAfterInsertion
 mod TrimmingRuns
 mod TypedWords

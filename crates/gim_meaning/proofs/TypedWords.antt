@@ -115,7 +115,7 @@ start_typed f args well words x = (
 
 -- ---- what is read
 
-constant_is_word : (w : Word) → is_word w ≡ true → IsWord w
+pub constant_is_word : (w : Word) → is_word w ≡ true → IsWord w
 constant_is_word w h =
     let parts = and_parts (is_type_of w.ty) (nat_lt w.bits (2 ^ w.ty.width)) h in
     (grind (arith, nat_tests), parts.0)

@@ -2,7 +2,7 @@
 //! contract is a law, which its check proves.
 
 pub mod changes;
-pub mod copies;
 pub mod points;
 pub mod terms;
+pub mod uses;
 pub mod values;

@@ -6,7 +6,7 @@ use Rattle.gim_changes.specs.Trimming.{tidied}
 use Rattle.gim_meaning.proofs.KeptInARow.{keeps_through}
 use Rattle.gim_meaning.proofs.PossibleWords.{followed_keeps_runs}
 use Rattle.gim_meaning.proofs.TrimmingRuns.{tidying_keeps_runs}
-use Rattle.gim_meaning.proofs.laws.copies.copies_may_go.Goals as goal
+use Rattle.gim_meaning.proofs.laws.uses.copies_may_go.Goals as goal
 
 pub returns : goal.returns
 returns c = λ f x by valid is.
