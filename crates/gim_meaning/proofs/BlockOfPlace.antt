@@ -1,37 +1,14 @@
 -- The block at a place is that of its number, and a change at the place is one of that block.
-use Rattle.std.proofs.Common.{◌≡◌, ◌≢◌, ℕ, zero, suc, Bool, true, false, cond, eqb, not, Option, Some, None, List, [], ◌∷◌, ◌++◌, map, length, insert, slice_get, is_some, refl, sym, ap, subst, ◌∙◌, arith}
-use Rattle.std.specs.Prelude.{IsSome}
-use Rattle.std.specs.Option.{option_map_or}
-use Rattle.std.specs.List.{list_any, list_all, AllByRecursion}
+use Rattle.std.proofs.Common.{◌≡◌, ℕ, zero, suc, Bool, true, false, cond, eqb, not, Some, List, [], ◌∷◌, ◌++◌, map, length, insert, slice_get, refl, sym, ap, subst, ◌∙◌, arith}
+use Rattle.std.specs.List.{list_any}
 use Rattle.std.proofs.lemmas.Bool.{and_parts, not-true, or_parts, or_left, or_right, both_ways, eq-eqb, eqb-true}
 use Rattle.std.proofs.lemmas.Bool.Decides.{nat_tests}
 use Rattle.std.proofs.lemmas.Option.{same_Some, none-some}
-use Rattle.pm_wide.specs.Types.{Word, bool_type, same_type}
-use Rattle.pm_wide.specs.declared.operand.Operand.{Operand}
-use Rattle.pm_wide.specs.declared.operand.Operand.TheVariants.{Name, Const}
 use Rattle.gim_ast.specs.declared.function.Function.{Function}
 use Rattle.gim_ast.specs.declared.function.Block.{Block}
-use Rattle.gim_ast.specs.declared.function.Decl.{Decl}
-use Rattle.gim_ast.specs.declared.function.Phi.{Phi}
-use Rattle.gim_ast.specs.declared.function.Stmt.{Stmt}
-use Rattle.gim_ast.specs.declared.function.NameRow.{NameRow}
-use Rattle.gim_ast.specs.Functions.{first_where, operands_of, operands_of_phi, operands_of_stmt, row_of, block_of}
-use Rattle.gim_ast.specs.WellFormed.{IsWellFormed, all_distinct, type_of, operand_holds, phi_fits, stmt_fits, rhs_fits, block_fits}
-use Rattle.gim_ast.specs.Runs.{Env, assign, start_env, start_word, zero_of, name_type, after_phis, rhs_value, pass_stmts, On, lead_of}
-use Rattle.gim_run.specs.Blocks.{phi_holds}
-use Rattle.gim_run.proofs.PhiLemmas.{block_phis}
-use Rattle.gim_changes.specs.Insertion.{changed_at, insert_in_block, row_for, with_stmt}
-use Rattle.gim_meaning.specs.ReachedPoints.{Inside, Reaches, pass, Lies}
-use Rattle.gim_meaning.specs.KeptRuns.{AreArgumentWords, KeepsDefinedRuns}
-use Rattle.gim_meaning.specs.SameReading.{GoesOn, HasValueThere, IsNewStmt}
-use Rattle.gim_meaning.proofs.Agreement.{AgreeOn, AllStand, same_value, same_lead}
-use Rattle.gim_meaning.proofs.ListSearch.{first_of_front, first_behind}
-use Rattle.gim_meaning.proofs.Lockstep.{PassesAlike, GoesAlike, alike_keeps_runs, passes_stmt}
-use Rattle.gim_meaning.proofs.OperandsStand.{phis_stand, end_stands, TypedAlike, PhiTyped, same_phis}
-use Rattle.gim_meaning.proofs.ReadableValues.{IsOther, others_agree}
-use Rattle.gim_meaning.proofs.Reached.{lies, passed_first}
-use Rattle.gim_meaning.proofs.TypedWords.{block_is_right, stmt_is_right}
-use Rattle.gim_meaning.proofs.UnchangedItems.{same_step, same_rest, left_by_choice}
+use Rattle.gim_ast.specs.Functions.{first_where, block_of}
+use Rattle.gim_ast.specs.WellFormed.{IsWellFormed, all_distinct}
+use Rattle.gim_changes.specs.Insertion.{changed_at}
 
 -- ---- the block of a place
 
@@ -110,4 +87,3 @@ blocks_apart f well = (and_parts _ _ (and_parts _ _ (and_parts _ _ well.blocks).
 pub block_at : (f : Function) → IsWellFormed f → (place : ℕ) (home : Block) → slice_get f.blocks place ≡ Some home → block_of f home.number ≡ Some home
 unfolding block_of
 block_at f well place home at = found_at f.blocks place home (blocks_apart f well) at
-

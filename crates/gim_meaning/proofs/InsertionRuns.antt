@@ -1,26 +1,23 @@
 -- A new statement keeps every defined run where it has a value: nobody reads its name.
-use Rattle.std.proofs.Common.{◌≡◌, ◌≢◌, ℕ, zero, suc, Bool, true, false, cond, eqb, not, Option, Some, None, List, [], ◌∷◌, ◌++◌, map, length, insert, slice_get, is_some, refl, sym, ap, subst, ◌∙◌, arith}
+use Rattle.std.proofs.Common.{◌≡◌, ℕ, Bool, true, false, cond, eqb, Option, Some, None, List, [], ◌∷◌, ◌++◌, length, insert, slice_get, is_some, refl, sym, ap, subst, ◌∙◌}
 use Rattle.std.specs.Prelude.{IsSome}
-use Rattle.std.specs.Option.{option_map_or}
-use Rattle.std.specs.List.{list_any, list_all, AllByRecursion}
-use Rattle.std.proofs.lemmas.Bool.{and_parts, not-true, or_parts, or_left, or_right, both_ways, eq-eqb, eqb-true}
-use Rattle.std.proofs.lemmas.Bool.Decides.{nat_tests}
-use Rattle.std.proofs.lemmas.Option.{same_Some, none-some}
-use Rattle.pm_wide.specs.Types.{Word, bool_type, same_type}
+use Rattle.std.specs.List.{list_all, AllByRecursion}
+use Rattle.std.proofs.lemmas.Bool.{and_parts, both_ways, eqb-true}
+use Rattle.std.proofs.lemmas.Option.{same_Some}
+use Rattle.pm_wide.specs.Types.{Word, same_type}
 use Rattle.pm_wide.specs.declared.operand.Operand.{Operand}
-use Rattle.pm_wide.specs.declared.operand.Operand.TheVariants.{Name, Const}
 use Rattle.gim_ast.specs.declared.function.Function.{Function}
 use Rattle.gim_ast.specs.declared.function.Block.{Block}
 use Rattle.gim_ast.specs.declared.function.Decl.{Decl}
 use Rattle.gim_ast.specs.declared.function.Phi.{Phi}
 use Rattle.gim_ast.specs.declared.function.Stmt.{Stmt}
 use Rattle.gim_ast.specs.declared.function.NameRow.{NameRow}
-use Rattle.gim_ast.specs.Functions.{first_where, operands_of, operands_of_phi, operands_of_stmt, row_of, block_of}
-use Rattle.gim_ast.specs.WellFormed.{IsWellFormed, all_distinct, type_of, operand_holds, phi_fits, stmt_fits, rhs_fits, block_fits}
-use Rattle.gim_ast.specs.Runs.{Env, assign, start_env, start_word, zero_of, name_type, after_phis, rhs_value, pass_stmts, On, lead_of}
+use Rattle.gim_ast.specs.Functions.{operands_of, operands_of_phi, operands_of_stmt, block_of}
+use Rattle.gim_ast.specs.WellFormed.{IsWellFormed, type_of, operand_holds, phi_fits, stmt_fits, rhs_fits}
+use Rattle.gim_ast.specs.Runs.{Env, assign, name_type, after_phis, rhs_value, pass_stmts, On, lead_of}
 use Rattle.gim_run.specs.Blocks.{phi_holds}
 use Rattle.gim_run.proofs.PhiLemmas.{block_phis}
-use Rattle.gim_changes.specs.Insertion.{changed_at, insert_in_block, row_for, with_stmt}
+use Rattle.gim_changes.specs.Insertion.{insert_in_block, with_stmt}
 use Rattle.gim_meaning.specs.ReachedPoints.{Inside, Reaches, pass, Lies}
 use Rattle.gim_meaning.specs.KeptRuns.{AreArgumentWords, KeepsDefinedRuns}
 use Rattle.gim_meaning.specs.SameReading.{GoesOn, HasValueThere, IsNewStmt}

@@ -1,37 +1,24 @@
 -- Rows of a function that got a new statement: those of other names stay, and what has a row is another name.
-use Rattle.std.proofs.Common.{◌≡◌, ◌≢◌, ℕ, zero, suc, Bool, true, false, cond, eqb, not, Option, Some, None, List, [], ◌∷◌, ◌++◌, map, length, insert, slice_get, is_some, refl, sym, ap, subst, ◌∙◌, arith}
-use Rattle.std.specs.Prelude.{IsSome}
+use Rattle.std.proofs.Common.{◌≡◌, ◌≢◌, ℕ, Bool, true, false, cond, eqb, Option, Some, None, List, [], ◌∷◌, ◌++◌, refl, sym, ap, ◌∙◌, arith}
 use Rattle.std.specs.Option.{option_map_or}
-use Rattle.std.specs.List.{list_any, list_all, AllByRecursion}
-use Rattle.std.proofs.lemmas.Bool.{and_parts, not-true, or_parts, or_left, or_right, both_ways, eq-eqb, eqb-true}
+use Rattle.std.specs.List.{list_all}
+use Rattle.std.proofs.lemmas.Bool.{and_parts, both_ways, eq-eqb}
 use Rattle.std.proofs.lemmas.Bool.Decides.{nat_tests}
-use Rattle.std.proofs.lemmas.Option.{same_Some, none-some}
 use Rattle.pm_wide.specs.Types.{Word, bool_type, same_type}
 use Rattle.pm_wide.specs.declared.operand.Operand.{Operand}
 use Rattle.pm_wide.specs.declared.operand.Operand.TheVariants.{Name, Const}
 use Rattle.gim_ast.specs.declared.function.Function.{Function}
-use Rattle.gim_ast.specs.declared.function.Block.{Block}
 use Rattle.gim_ast.specs.declared.function.Decl.{Decl}
-use Rattle.gim_ast.specs.declared.function.Phi.{Phi}
 use Rattle.gim_ast.specs.declared.function.Stmt.{Stmt}
 use Rattle.gim_ast.specs.declared.function.NameRow.{NameRow}
-use Rattle.gim_ast.specs.Functions.{first_where, operands_of, operands_of_phi, operands_of_stmt, row_of, block_of}
-use Rattle.gim_ast.specs.WellFormed.{IsWellFormed, all_distinct, type_of, operand_holds, phi_fits, stmt_fits, rhs_fits, block_fits}
-use Rattle.gim_ast.specs.Runs.{Env, assign, start_env, start_word, zero_of, name_type, after_phis, rhs_value, pass_stmts, On, lead_of}
-use Rattle.gim_run.specs.Blocks.{phi_holds}
-use Rattle.gim_run.proofs.PhiLemmas.{block_phis}
-use Rattle.gim_changes.specs.Insertion.{changed_at, insert_in_block, row_for, with_stmt}
-use Rattle.gim_meaning.specs.ReachedPoints.{Inside, Reaches, pass, Lies}
-use Rattle.gim_meaning.specs.KeptRuns.{AreArgumentWords, KeepsDefinedRuns}
-use Rattle.gim_meaning.specs.SameReading.{GoesOn, HasValueThere, IsNewStmt}
-use Rattle.gim_meaning.proofs.Agreement.{AgreeOn, AllStand, same_value, same_lead}
+use Rattle.gim_ast.specs.Functions.{first_where, operands_of, row_of}
+use Rattle.gim_ast.specs.WellFormed.{IsWellFormed, operand_holds, block_fits}
+use Rattle.gim_ast.specs.Runs.{start_env, start_word, zero_of, name_type}
+use Rattle.gim_changes.specs.Insertion.{row_for, with_stmt}
+use Rattle.gim_meaning.proofs.Agreement.{AllStand}
 use Rattle.gim_meaning.proofs.ListSearch.{first_of_front, first_behind}
-use Rattle.gim_meaning.proofs.Lockstep.{PassesAlike, GoesAlike, alike_keeps_runs, passes_stmt}
-use Rattle.gim_meaning.proofs.OperandsStand.{phis_stand, end_stands, TypedAlike, PhiTyped, same_phis}
-use Rattle.gim_meaning.proofs.ReadableValues.{IsOther, others_agree}
-use Rattle.gim_meaning.proofs.Reached.{lies, passed_first}
-use Rattle.gim_meaning.proofs.TypedWords.{block_is_right, stmt_is_right}
-use Rattle.gim_meaning.proofs.UnchangedItems.{same_step, same_rest, left_by_choice}
+use Rattle.gim_meaning.proofs.OperandsStand.{TypedAlike}
+use Rattle.gim_meaning.proofs.ReadableValues.{IsOther}
 
 -- ---- a name without a row
 
@@ -92,4 +79,3 @@ module _ (f : Function) (place before : ℕ) (stmt : Stmt) (decl : Decl) where
   pub starts_other : (args : List Word) (y : ℕ) → y ≢ stmt.name → start_env g args y ≡ start_env f args y
   unfolding start_env with_stmt
   starts_other args y other = ap (λ found. option_map_or (start_word f args) found (zero_of bool_type)) (row_other y other)
-

@@ -1,10 +1,10 @@
 -- A sum less its second summand is the first one, so an operand of the sum is put for the difference.
-use Rattle.std.proofs.Common.{◌≡◌, ℕ, Bool, true, false, Option, Some, None, List, [], ◌∷◌, ◌&&◌, refl, sym, ap, ap₂, subst, ◌∙◌, arith}
-use Rattle.std.specs.Prelude.{⊤, ℤ, ◌+ℤ◌, ◌-ℤ◌, ◌==◌}
+use Rattle.std.proofs.Common.{◌≡◌, ℕ, true, Option, Some, None, [], ◌∷◌, ◌&&◌, refl, sym, ap, ap₂, subst, ◌∙◌, arith}
+use Rattle.std.specs.Prelude.{ℤ, ◌+ℤ◌, ◌-ℤ◌, ◌==◌}
 use Rattle.std.proofs.lemmas.Int.{ints}
 use Rattle.std.proofs.lemmas.Bool.{and_parts, or_left, eq-eqb}
 use Rattle.pm_ops.specs.declared.code.Code.TheVariants.{Plus, Minus}
-use Rattle.pm_wide.specs.Types.{Ty, Word, IsType, IsWord, value, value_of, word, word_of, same_type}
+use Rattle.pm_wide.specs.Types.{Ty, Word, IsType, IsWord, value, word_of, same_type}
 use Rattle.pm_wide.specs.Congruence.{Congruent}
 use Rattle.pm_wide.specs.Operations.{exact, operation_value}
 use Rattle.pm_wide.specs.Typing.{well_typed_operation}
@@ -15,17 +15,17 @@ use Rattle.pm_wide.proofs.Results.{same_type_is}
 use Rattle.pm_wide.proofs.Values.{exact_cases, exact_congruent}
 use Rattle.pm_wide.proofs.Words.{same_word, word-value}
 use Rattle.pm_term.specs.Terms.{term_value, operation_on, with_value}
-use Rattle.pm_term.specs.Trees.{Tree, node, Trees, nil, cons, leaf}
+use Rattle.pm_term.specs.Trees.{Tree, node, nil, cons, leaf}
 use Rattle.gim_ast.specs.declared.function.Function.{Function}
 use Rattle.gim_ast.specs.declared.function.Rhs.TheVariants.{Op}
 use Rattle.gim_ast.specs.Functions.{right_of}
-use Rattle.gim_ast.specs.Readable.{read_for, Supports, operand, further, names_among, IsValid}
+use Rattle.gim_ast.specs.Readable.{operand, further, names_among, IsValid}
 use Rattle.gim_ast.specs.Runs.{name_type}
 use Rattle.gim_ast.specs.WellFormed.{IsWellFormed, is_among, type_of, operand_holds}
 use Rattle.gim_changes.specs.Substitution.{put_in_all}
 use Rattle.gim_changes.specs.Trimming.{tidied}
 use Rattle.gim_meaning.specs.KeptRuns.{KeepsDefinedRuns}
-use Rattle.gim_meaning.specs.Unfolding.{Unfolds, itself, computed, EachUnfolds, no_operand, one_more, IsOfSupport, AreWordsOfNames, Refines}
+use Rattle.gim_meaning.specs.Unfolding.{Unfolds, itself, computed, no_operand, one_more, IsOfSupport, AreWordsOfNames, Refines}
 use Rattle.gim_meaning.proofs.KeptInARow.{keeps_through}
 use Rattle.gim_meaning.proofs.ReadableValues.{reads_of}
 use Rattle.gim_meaning.proofs.TermsAfterInsertion.{FitsItsName, right_fits_its_name}

@@ -1,5 +1,5 @@
 -- A new statement leaves what terms stand for, and its own name stands for what it computes.
-use Rattle.std.proofs.Common.{◌≡◌, ◌≢◌, ℕ, zero, suc, Bool, true, false, cond, eqb, Option, Some, None, List, [], ◌∷◌, ◌++◌, ◌&&◌, length, take, drop, insert, slice_get, refl, sym, ap, subst, ◌∙◌, arith, take-append-drop}
+use Rattle.std.proofs.Common.{◌≡◌, ◌≢◌, ℕ, zero, suc, Bool, true, false, cond, eqb, Option, Some, None, List, [], ◌∷◌, ◌++◌, take, drop, insert, slice_get, refl, sym, ap, subst, ◌∙◌, arith, take-append-drop}
 use Rattle.std.specs.Prelude.{option_map}
 use Rattle.std.specs.Option.{option_map_or}
 use Rattle.std.specs.List.{list_all, flat_map}
@@ -10,7 +10,7 @@ use Rattle.std.proofs.lemmas.Option.{same_Some, none-some}
 use Rattle.pm_wide.specs.Types.{Ty, same_type}
 use Rattle.pm_wide.specs.declared.operand.Operand.{Operand}
 use Rattle.pm_wide.specs.declared.operand.Operand.TheVariants.{Name, Const}
-use Rattle.pm_term.specs.Trees.{Tree, node, Trees, cons, leaf}
+use Rattle.pm_term.specs.Trees.{Tree, node, Trees}
 use Rattle.gim_ast.specs.declared.function.Function.{Function}
 use Rattle.gim_ast.specs.declared.function.Block.{Block}
 use Rattle.gim_ast.specs.declared.function.Decl.{Decl}
@@ -26,7 +26,7 @@ use Rattle.gim_run.specs.Blocks.{block_holds}
 use Rattle.gim_run.proofs.HoldLemmas.{blocks_hold}
 use Rattle.gim_run.proofs.PhiLemmas.{block_stmts}
 use Rattle.gim_run.proofs.SlotLemmas.{stmt_typed, stmt_known}
-use Rattle.gim_changes.specs.Insertion.{changed_at, insert_in_block, row_for, with_stmt}
+use Rattle.gim_changes.specs.Insertion.{changed_at, insert_in_block, with_stmt}
 use Rattle.gim_meaning.specs.SameReading.{IsNewStmt}
 use Rattle.gim_meaning.specs.Unfolding.{Unfolds, itself, copied, computed, EachUnfolds, no_operand, one_more, UnfoldsRight}
 use Rattle.gim_meaning.proofs.ListSearch.{found_passes, first_of_front, first_behind, all_of_found}
