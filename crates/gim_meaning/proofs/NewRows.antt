@@ -1,5 +1,7 @@
--- Rows of a function that got a new statement: those of other names stay, and what has a row is another name.
-use Rattle.std.proofs.Common.{◌≡◌, ◌≢◌, ℕ, Bool, true, false, cond, eqb, Option, Some, None, List, [], ◌∷◌, ◌++◌, refl, sym, ap, ◌∙◌, arith}
+-- Rows of a function that got a new statement: those of other names stay, and what has a row is
+-- another name.
+use Rattle.std.proofs.Common.{◌≡◌, ◌≢◌, ℕ, Bool, true, false, cond, eqb, Option, Some, None, List}
+use Rattle.std.proofs.Common.{[], ◌∷◌, ◌++◌, refl, sym, ap, ◌∙◌, arith}
 use Rattle.std.specs.Option.{option_map_or}
 use Rattle.std.specs.List.{list_all}
 use Rattle.std.proofs.lemmas.Bool.{and_parts, both_ways, eq-eqb}
@@ -24,19 +26,31 @@ use Rattle.gim_meaning.proofs.ReadableValues.{IsOther}
 
 module _ (f : Function) (new : ℕ) (none : row_of f new ≡ None) where
   -- what has a row is another name
-  pub has_row_other : (p : NameRow → Bool) (y : ℕ) → option_map_or p (row_of f y) false ≡ true → y ≢ new
+  pub has_row_other : (p : NameRow → Bool) (y : ℕ) → option_map_or p (row_of f y) false ≡ true →
+      y ≢ new
   has_row_other p y h same =
-      both_ways false refl (sym (ap (λ z. option_map_or p (row_of f z) false) same ∙ ap (λ found. option_map_or p found false) none) ∙ h)
+      both_ways false refl (sym (ap (λ z. option_map_or p (row_of f z) false) same
+      ∙ ap (λ found. option_map_or p found false) none) ∙ h)
 
-  pub holding_stand : (operands : List Operand) → list_all (operand_holds f) operands ≡ true → AllStand (IsOther new) operands
+  pub holding_stand : (operands : List Operand) → list_all (operand_holds f) operands ≡ true →
+      AllStand (IsOther new) operands
   holding_stand [] h = tt
   holding_stand (Name y t ∷ operands) h =
-      let parts = and_parts (operand_holds f (Name y t)) (list_all (operand_holds f) operands) h in
-      (has_row_other (λ (row : NameRow). same_type row.ty t) y parts.0, holding_stand operands parts.1)
-  holding_stand (Const w ∷ operands) h = (tt, holding_stand operands ((and_parts (operand_holds f (Const w)) (list_all (operand_holds f) operands) h).1))
+      let parts = and_parts (operand_holds f (Name y t)) (list_all (operand_holds f) operands) h in (
+        has_row_other (λ (row : NameRow). same_type row.ty t) y parts.0,
+        holding_stand operands
+            parts.1,
+      )
+  holding_stand (Const w ∷ operands) h = (
+    tt,
+    holding_stand operands ((and_parts (operand_holds f (Const w))
+        (list_all (operand_holds f) operands) h).1),
+  )
 
   pub all_stand_aside : IsWellFormed f → AllStand (IsOther new) (operands_of f)
-  all_stand_aside well = holding_stand (operands_of f) ((and_parts (list_all (operand_holds f) (operands_of f)) (list_all (block_fits f) f.blocks) well.operands).0)
+  all_stand_aside well = holding_stand (operands_of f)
+      ((and_parts (list_all (operand_holds f) (operands_of f))
+      (list_all (block_fits f) f.blocks) well.operands).0)
 
 -- ---- a new row
 
@@ -45,16 +59,19 @@ module _ (f : Function) (place before : ℕ) (stmt : Stmt) (decl : Decl) where
   g = with_stmt place before stmt decl f
 
   rows_behind : (y : ℕ) → y ≢ stmt.name → (rows : List NameRow) →
-      first_where (λ (row : NameRow). eqb row.version y) (rows ++ row_for stmt decl ∷ []) ≡ first_where (λ (row : NameRow). eqb row.version y) rows
+      first_where (λ (row : NameRow). eqb row.version y)
+      (rows ++ row_for stmt decl ∷ []) ≡ first_where (λ (row : NameRow). eqb row.version y) rows
   rows_behind y other rows = by (first_where (λ (row : NameRow). eqb row.version y) rows) refl
     where
       p : NameRow → Bool
       p row = eqb row.version y
 
       last : first_where p (row_for stmt decl ∷ []) ≡ None
-      last = let fails : eqb stmt.name y ≡ false = grind (arith, nat_tests) in ap (λ b. cond b (Some (row_for stmt decl)) None) fails
+      last = let fails : eqb stmt.name y ≡ false = grind (arith, nat_tests) in
+          ap (λ b. cond b (Some (row_for stmt decl)) None) fails
 
-      by : (found : Option NameRow) → first_where p rows ≡ found → first_where p (rows ++ row_for stmt decl ∷ []) ≡ found
+      by : (found : Option NameRow) → first_where p rows ≡ found →
+          first_where p (rows ++ row_for stmt decl ∷ []) ≡ found
       by None is = first_behind p rows (row_for stmt decl ∷ []) is ∙ last
       by (Some row) is = first_of_front p rows (row_for stmt decl ∷ []) row is
 
@@ -65,17 +82,22 @@ module _ (f : Function) (place before : ℕ) (stmt : Stmt) (decl : Decl) where
   pub row_new : row_of f stmt.name ≡ None → row_of g stmt.name ≡ Some (row_for stmt decl)
   unfolding row_of with_stmt
   row_new none =
-      first_behind (λ (row : NameRow). eqb row.version stmt.name) f.names (row_for stmt decl ∷ []) none
+      first_behind (λ (row : NameRow). eqb row.version stmt.name) f.names
+      (row_for stmt decl ∷ []) none
       ∙ ap (λ b. cond b (Some (row_for stmt decl)) None) (eq-eqb stmt.name stmt.name refl)
 
   pub typed_other : (y : ℕ) → y ≢ stmt.name → TypedAlike f g y
   unfolding name_type
-  typed_other y other = ap (λ found. option_map_or (λ (row : NameRow). row.ty) found bool_type) (row_other y other)
+  typed_other y other = ap (λ found. option_map_or (λ (row : NameRow). row.ty) found bool_type)
+      (row_other y other)
 
   pub typed_new : row_of f stmt.name ≡ None → name_type g stmt.name ≡ decl.ty
   unfolding name_type
-  typed_new none = ap (λ found. option_map_or (λ (row : NameRow). row.ty) found bool_type) (row_new none)
+  typed_new none = ap (λ found. option_map_or (λ (row : NameRow). row.ty) found bool_type)
+      (row_new none)
 
-  pub starts_other : (args : List Word) (y : ℕ) → y ≢ stmt.name → start_env g args y ≡ start_env f args y
+  pub starts_other : (args : List Word) (y : ℕ) → y ≢ stmt.name →
+      start_env g args y ≡ start_env f args y
   unfolding start_env with_stmt
-  starts_other args y other = ap (λ found. option_map_or (start_word f args) found (zero_of bool_type)) (row_other y other)
+  starts_other args y other = ap (λ found. option_map_or (start_word f args) found
+      (zero_of bool_type)) (row_other y other)

@@ -11,13 +11,15 @@ use Rattle.gim_ast.specs.Runs.{Env, rhs_value, name_type}
 abbrev pub AreTyped : Function → Env → Type 0
 AreTyped f env = (x : ℕ) → ((env x).ty ≡ name_type f x) × IsWord (env x)
 
--- the name has the value that its operation gives on the present words of its operands. A default definition and the name
--- of a phi have no operation
+-- the name has the value that its operation gives on the present words of its operands. A default
+-- definition and the name of a phi have no operation
 abbrev pub HasItsValue : Function → Env → ℕ → Type 0
-HasItsValue f env x = (rhs : Rhs) → right_of f x ≡ Some rhs → rhs_value (name_type f x) env rhs ≡ Some (env x)
+HasItsValue f env x = (rhs : Rhs) → right_of f x ≡ Some rhs →
+    rhs_value (name_type f x) env rhs ≡ Some (env x)
 
--- the words that names may have where `left` is still to be assigned in block n, as far as types and operations tell: they are
--- of their names' types, and each name that is readable there has its value
+-- the words that names may have where `left` is still to be assigned in block n, as far as types
+-- and operations tell: they are of their names' types, and each name that is readable there has its
+-- value
 pub record ArePossible (f : Function) (n : ℕ) (left : List ℕ) (env : Env) : Type 0 where
   pub typed : AreTyped f env
   pub values : (x : ℕ) → IsReadable f x n left → HasItsValue f env x

@@ -11,20 +11,22 @@ ghost use Rattle.gim_meaning.specs.KeptRuns.{AreArgumentWords};
 ghost use Rattle.gim_meaning.specs.PresentValues.{ArePossible};
 ghost use Rattle.gim_meaning.specs.ReachedPoints.{Inside, Reaches, Lies, LeadsOut, IsStuckAt};
 
-/// A run returns a word where it comes to the end of a block that leads out with it, and nowhere else.
+/// A run returns a word where it comes to the end of a block that leads out with it, and nowhere
+/// else.
 pub fn runs_return_where_blocks_lead_out()
     ensures comes { (f : Function) (args : List Word) (fuel : ℕ) (w : Word) →
         run_of f args fuel ≡ Returned w → LeadsOut f args w }
-    ensures returns { (f : Function) (args : List Word) (w : Word) →
-        LeadsOut f args w → (fuel : ℕ) × (run_of f args fuel ≡ Returned w) }
+    ensures returns { (f : Function) (args : List Word) (w : Word) → LeadsOut f args w →
+        (fuel : ℕ) × (run_of f args fuel ≡ Returned w) }
 {}
 
-/// A run is undefined at a name where it comes to a statement of the name that has no value, and nowhere else.
+/// A run is undefined at a name where it comes to a statement of the name that has no value, and
+/// nowhere else.
 pub fn runs_are_undefined_where_statements_are()
     ensures comes { (f : Function) (args : List Word) (fuel x : ℕ) →
         run_of f args fuel ≡ Undefined x → IsStuckAt f args x }
-    ensures is_undefined { (f : Function) (args : List Word) (x : ℕ) →
-        IsStuckAt f args x → (fuel : ℕ) × (run_of f args fuel ≡ Undefined x) }
+    ensures is_undefined { (f : Function) (args : List Word) (x : ℕ) → IsStuckAt f args x →
+        (fuel : ℕ) × (run_of f args fuel ≡ Undefined x) }
 {}
 
 /// Where a run comes it is inside of a block of the function, before its last statements.
@@ -33,8 +35,9 @@ pub fn runs_stay_in_blocks()
         Reaches f args (Inside block stmts env) → Lies f block stmts }
 {}
 
-/// Whenever a run of a well-formed function comes to a point, each name has a word of its type, and each name that is
-/// readable there has the value that its operation gives on the present words of its operands.
+/// Whenever a run of a well-formed function comes to a point, each name has a word of its type, and
+/// each name that is readable there has the value that its operation gives on the present words of
+/// its operands.
 pub fn readable_names_have_their_values()
     ensures { (f : Function) (args : List Word) (block : Block) (stmts : List Stmt) (env : Env) →
         IsWellFormed f → AreArgumentWords f args → Reaches f args (Inside block stmts env) →

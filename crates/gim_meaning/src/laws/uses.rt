@@ -1,4 +1,5 @@
-//! Uses of the laws: an operand is put for a name, through loops as elsewhere, and what is unused then goes.
+//! Uses of the laws: an operand is put for a name, through loops as elsewhere, and what is unused
+//! then goes.
 ghost use Rattle.std.specs.Prelude.{◌≡◌, ℕ, Some, [], ◌∷◌};
 ghost use Rattle.pm_ops.specs.declared.code.Code.TheVariants.{Plus, Minus};
 ghost use Rattle.pm_wide.specs.Types.{Ty};
@@ -21,6 +22,7 @@ pub fn copies_may_go()
 /// For `y = x - b`, where `x = a + b`, a is put: by terms.
 pub fn differences_of_sums_may_go()
     ensures { (f : Function) (x y : ℕ) (t : Ty) (a b : Operand) → IsValid f →
-        right_of f x ≡ Some (Op Plus (a ∷ b ∷ [])) → right_of f y ≡ Some (Op Minus (Name x t ∷ b ∷ [])) →
+        right_of f x ≡ Some (Op Plus (a ∷ b ∷ [])) →
+        right_of f y ≡ Some (Op Minus (Name x t ∷ b ∷ [])) →
         KeepsDefinedRuns f (tidied (put_in_all y a f)) }
 {}

@@ -1,5 +1,5 @@
-//! Which changes keep every defined run, by what holds of all words that names may have at a point: words of their types
-//! with which each readable name has the value of its operation.
+//! Which changes keep every defined run, by what holds of all words that names may have at a point:
+//! words of their types with which each readable name has the value of its operation.
 ghost use Rattle.std.specs.Prelude.{◌≡◌, ℕ, Some, List, ◌∷◌, ◌++◌, length, slice_get};
 ghost use Rattle.std.specs.List.{AllByRecursion};
 ghost use Rattle.pm_ops.specs.declared.code.Code.{Code};
@@ -17,33 +17,41 @@ ghost use Rattle.gim_changes.specs.Insertion.{with_stmt};
 ghost use Rattle.gim_changes.specs.Substitution.{put_in_all, with_rhs, with_condition};
 ghost use Rattle.gim_meaning.specs.KeptRuns.{KeepsDefinedRuns};
 ghost use Rattle.gim_meaning.specs.ReachedPoints.{Lies};
-ghost use Rattle.gim_meaning.specs.SameReading.{AlwaysReadsAlike, AlwaysGivesAlike, AlwaysDecidesAlike, AlwaysHasValueThere, FollowsFrom, IsNewStmt};
+ghost use Rattle.gim_meaning.specs.SameReading.{AlwaysReadsAlike, AlwaysGivesAlike};
+ghost use Rattle.gim_meaning.specs.SameReading.{AlwaysDecidesAlike, AlwaysHasValueThere};
+ghost use Rattle.gim_meaning.specs.SameReading.{FollowsFrom, IsNewStmt};
 
-/// An operand put for a name: it has the name's word at each use, or, in a valid function, it follows from the values of the
-/// name and of its support.
+/// An operand put for a name: it has the name's word at each use, or, in a valid function, it
+/// follows from the values of the name and of its support.
 pub fn substitution_keeps_runs()
     ensures at_uses { (f : Function) (x : ℕ) (by : Operand) → IsWellFormed f →
-        AllByRecursion (AlwaysReadsAlike f x by) (uses_in f) → KeepsDefinedRuns f (put_in_all x by f) }
+        AllByRecursion (AlwaysReadsAlike f x by) (uses_in f) →
+        KeepsDefinedRuns f (put_in_all x by f) }
     ensures by_support { (f : Function) (x : ℕ) (by : Operand) → IsValid f → FollowsFrom f x by →
         KeepsDefinedRuns f (put_in_all x by f) }
 {}
 
 /// A right side that has the old one's value before the statement.
 pub fn right_side_keeps_runs()
-    ensures { (f : Function) (block : Block) (stmt : Stmt) (stmts : List Stmt) (rhs : Rhs) → IsWellFormed f →
-        Lies f block (stmt ∷ stmts) → AlwaysGivesAlike f block stmt stmts rhs → KeepsDefinedRuns f (with_rhs stmt.name rhs f) }
+    ensures { (f : Function) (block : Block) (stmt : Stmt) (stmts : List Stmt) (rhs : Rhs) →
+        IsWellFormed f → Lies f block (stmt ∷ stmts) → AlwaysGivesAlike f block stmt stmts rhs →
+        KeepsDefinedRuns f (with_rhs stmt.name rhs f) }
 {}
 
 /// A condition that holds as the old one does at the end of the block.
 pub fn condition_keeps_runs()
-    ensures { (f : Function) (block : Block) (old : Code) (left right : Operand) (yes_to no_to : ℕ) (code : Code) (a b : Operand) →
-        IsWellFormed f → block_of f block.number ≡ Some block → block.end ≡ If old left right yes_to no_to →
-        AlwaysDecidesAlike f block.number old left right code a b → KeepsDefinedRuns f (with_condition block.number code a b f) }
+    ensures { (f : Function) (block : Block) (old : Code) (left right : Operand) (yes_to no_to : ℕ)
+        (code : Code) (a b : Operand) → IsWellFormed f → block_of f block.number ≡ Some block →
+        block.end ≡ If old left right yes_to no_to →
+        AlwaysDecidesAlike f block.number old left right code a b →
+        KeepsDefinedRuns f (with_condition block.number code a b f) }
 {}
 
 /// A new statement that has a value at its place wherever what stands there has one.
 pub fn insertion_keeps_runs()
-    ensures { (f : Function) (place : ℕ) (home : Block) (front rest : List Stmt) (stmt : Stmt) (decl : Decl) →
-        IsWellFormed f → slice_get f.blocks place ≡ Some home → home.stmts ≡ front ++ rest → IsNewStmt f stmt →
-        AlwaysHasValueThere f home rest decl.ty stmt.rhs → KeepsDefinedRuns f (with_stmt place (length front) stmt decl f) }
+    ensures { (f : Function) (place : ℕ) (home : Block) (front rest : List Stmt) (stmt : Stmt)
+        (decl : Decl) → IsWellFormed f → slice_get f.blocks place ≡ Some home →
+        home.stmts ≡ front ++ rest → IsNewStmt f stmt →
+        AlwaysHasValueThere f home rest decl.ty stmt.rhs →
+        KeepsDefinedRuns f (with_stmt place (length front) stmt decl f) }
 {}

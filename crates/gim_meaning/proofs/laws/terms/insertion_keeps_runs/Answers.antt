@@ -1,4 +1,5 @@
-use Rattle.gim_meaning.proofs.UnfoldedTerms.{defined_insertion_keeps_runs, defined_insertion_at_end_keeps_runs}
+use Rattle.gim_meaning.proofs.UnfoldedTerms.{defined_insertion_keeps_runs}
+use Rattle.gim_meaning.proofs.UnfoldedTerms.{defined_insertion_at_end_keeps_runs}
 use Rattle.gim_meaning.proofs.laws.terms.insertion_keeps_runs.Goals as goal
 
 pub returns-clause-before_stmt : goal.returns-clause-before_stmt

@@ -11,5 +11,6 @@ use Rattle.gim_meaning.proofs.laws.uses.copies_may_go.Goals as goal
 pub returns : goal.returns
 returns c = λ f x by valid is.
     keeps_through f (put_in_all x by f) (tidied (put_in_all x by f))
-    (followed_keeps_runs f x by valid (λ env typed value support. same_Some (word_of_operand env by) (env x) (value (Copy by) is)))
+    (followed_keeps_runs f x by valid (λ env typed value support. same_Some (word_of_operand env by)
+    (env x) (value (Copy by) is)))
     (tidying_keeps_runs (put_in_all x by f))
