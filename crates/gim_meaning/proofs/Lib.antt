@@ -1,4 +1,5 @@
 mod Agreement
+mod AlongRuns
 mod BlockOfPlace
 mod InsertionRuns
 mod KeptInARow

@@ -30,8 +30,9 @@ use Rattle.gim_ast.specs.Runs.{lead_of, holds, start_of, entry_of}
 use Rattle.gim_meaning.specs.ReachedPoints.{Spot, Between, Inside, Reaches, Lies}
 use Rattle.gim_meaning.specs.ReachedPoints as points
 use Rattle.gim_meaning.specs.PresentValues.{HasItsValue}
+use Rattle.gim_run.specs.Blocks.{phi_pair}
+use Rattle.gim_meaning.proofs.AlongRuns.{Known, passed, known_inside}
 use Rattle.gim_meaning.proofs.Agreement.{AgreeOn, AllStand, same_value}
-use Rattle.gim_meaning.proofs.ListSearch.{first_of_changed}
 use Rattle.gim_meaning.proofs.Reached.{lies, found_by_number, number_of_found}
 use Rattle.gim_meaning.proofs.RightSides.{right_at, no_right_at_phis, HasNoRight}
 use Rattle.gim_meaning.proofs.RightSides.{no_right_of_initial}
@@ -111,125 +112,29 @@ values_assigned f past e y w known own x apart fresh rhs is = by (eqb x y) refl
         ∙ ap Some (sym (others_agree e y w x other)))
         fresh
 
--- after an assignment on the way, a path and the values
-record Known (f : Function) (n : ℕ) (left : List ℕ) (e : Env) : Type 0 where
-  past : List ℕ
-  path : Path (flow_of f) n left past
-  values : AreValues f past e
-
--- past the phis of a block
-phis_known : (f : Function) (n from : ℕ) (old : Env) (left past : List ℕ) (phis : List Phi)
-    (e : Env) → AllByRecursion (HasNoRight f) phis →
-    Path (flow_of f) n (map phi_name phis ++ left) past → AreValues f past e →
-    Known f n left (assign_each (map (λ (phi : Phi). (phi.name, phi_word f from old phi)) phis) e)
-phis_known f n from old left past [] e none path known =
-    record { past = past; path = path; values = known }
-phis_known f n from old left past (phi ∷ phis) e none path known =
+-- past the phis of a block, which have no operation
+phis_keep_values : (f : Function) (from : ℕ) (old : Env) (phis : List Phi) (past : List ℕ) (e : Env) →
+    AllByRecursion (HasNoRight f) phis → AreValues f past e →
+    AreValues f (passed (map phi_name phis) past) (assign_each (map (phi_pair f from old) phis) e)
+phis_keep_values f from old [] past e none known = known
+phis_keep_values f from old (phi ∷ phis) past e none known =
     let w = phi_word f from old phi in
-    phis_known f n from old left (phi.name ∷ past) phis (assign phi.name w e) none.1
-    (item n phi.name (map phi_name phis ++ left) past path)
-    (values_assigned f past e phi.name w known
-    (λ rhs apart is. absurd (none-some rhs (sym none.0 ∙ is))))
+    phis_keep_values f from old phis (phi.name ∷ past) (assign phi.name w e) none.1
+    (values_assigned f past e phi.name w known (λ rhs apart is. absurd (none-some rhs (sym none.0 ∙ is))))
 
--- ---- the flow of a function and its blocks
-
-stretch_found : (f : Function) (n : ℕ) (block : Block) → block_of f n ≡ Some block →
-    stretch_at (flow_of f) n ≡ Some (stretch_of block)
-unfolding block_of
-stretch_found f n block is =
-    first_of_changed (λ (b : Block). b.number == n) (λ (s : Stretch). s.number == n) stretch_of
-    (λ b. refl) f.blocks ∙ ap (option_map stretch_of) is
-
-lead_is_target : (e : Env) (end : End) (n : ℕ) → lead_of e end ≡ To n →
-    IsTrue (is_among n (targets_of end))
-lead_is_target e (Goto to) n is = let same : to ≡ n = cc in
-    or_left (eqb to n) false (eq-eqb to n same)
-lead_is_target e (If code left right yes_to no_to) n is = by (holds e code left right) is
-  where
-    by : (b : Bool) → To (cond b yes_to no_to) ≡ To n →
-        (eqb yes_to n || (eqb no_to n || false)) ≡ true
-    by true e = let same : yes_to ≡ n = cc in
-        or_left (eqb yes_to n) (eqb no_to n || false) (eq-eqb yes_to n same)
-    by false e = let same : no_to ≡ n = cc in
-        or_right (eqb yes_to n) (eqb no_to n || false)
-        (or_left (eqb no_to n) false (eq-eqb no_to n same))
-lead_is_target e (Return a) n is = cc
-
--- ---- along a run
-
--- on the way to a block a path leads to its head
-record KnownHead (f : Function) (to : ℕ) (e : Env) : Type 0 where
-  past : List ℕ
-  paths_on : (block : Block) → block_of f to ≡ Some block →
-      Path (flow_of f) block.number (assigned_in block) past
-  values : AreValues f past e
-
-abbrev KnownThere : Function → Spot → Type 0
-KnownThere f (Between place) = KnownHead f place.to place.env
-KnownThere f (Inside block stmts e) = Known f block.number (map stmt_name stmts) e
-
-first_block : (f : Function) (block : Block) → block_of f (entry_of f.blocks) ≡ Some block →
-    paths.entry_of (flow_of f) ≡ Some (stretch_of block)
-unfolding block_of
-first_block f block is = by f.blocks is
-  where
-    by : (blocks : List Block) → first_where
-        (λ (b : Block). b.number == entry_of blocks) blocks ≡ Some block →
-        paths.entry_of (map stretch_of blocks) ≡ Some (stretch_of block)
-    by [] e = absurd (none-some block e)
-    by (b ∷ blocks) e =
-        ap (λ c. Some (stretch_of c)) (same_Some b block
-        (sym (ap (λ t. cond t (Some b)
-        (first_where (λ (c : Block). c.number == b.number) blocks))
-        (eq-eqb b.number b.number refl)) ∙ e))
-
-known_at_start : (f : Function) (args : List Word) → IsWellFormed f →
-    KnownThere f (Between (start_of f args))
-unfolding start_of
-known_at_start f args well = record {
-  past = [];
-  paths_on = λ block is. enter (stretch_of block) (first_block f block is);
-  values = λ x apart initial rhs is. absurd
-      (none-some rhs (sym (no_right_of_initial f well x initial) ∙ is));
-}
-
-known_there : (f : Function) (args : List Word) → IsWellFormed f → (spot : Spot) →
-    Reaches f args spot → KnownThere f spot
-known_there f args well _ points.start = known_at_start f args well
-known_there f args well _ (points.enter place block is before) =
-    let known = known_there f args well (Between place) before in
-    phis_known f block.number place.from place.env
-    (map stmt_name block.stmts) known.past block.phis place.env
-    (no_right_at_phis f well place.to block is) (known.paths_on block is) known.values
-known_there f args well _ (points.pass block stmt stmts e w value before) =
-    let known = known_there f args well (Inside block (stmt ∷ stmts) e) before in
-    record {
-      past = stmt.name ∷ known.past;
-      path = item block.number stmt.name (map stmt_name stmts) known.past known.path;
-      values = values_assigned f known.past e stmt.name w known.values
-          (λ rhs apart is. let same = same_Some stmt.rhs rhs
-          (sym (right_at f well block stmt stmts (lies before)) ∙ is) in
-          subst (λ r. rhs_value (name_type f stmt.name) e r ≡ Some w) same value);
-    }
-known_there f args well _ (points.leave block e n leads before) =
-    let known = known_there f args well (Inside block [] e) before in
-    record {
-      past = known.past;
-      paths_on = λ to is.
-          let number = number_of_found f n to is in
-          jump (stretch_of block) (stretch_of to) known.past
-          (stretch_found f block.number block (lies before).found)
-          (subst (λ m. IsTrue (is_among m (targets_of block.end))) (sym number)
-          (lead_is_target e block.end n leads))
-          (stretch_found f to.number to (found_by_number f n to is)) known.path;
-      values = known.values;
-    }
+values_there : (f : Function) (args : List Word) → IsWellFormed f → (block : Block) (stmts : List Stmt) (e : Env) →
+    Reaches f args (Inside block stmts e) → Known f args (AreValues f) block.number (map stmt_name stmts) e
+values_there f args well =
+    known_inside f args (AreValues f) well
+    (λ x apart initial rhs is. absurd (none-some rhs (sym (no_right_of_initial f well x initial) ∙ is)))
+    (λ before block e n past reached leads is path known. phis_keep_values f before.number e block.phis past e (no_right_at_phis f well n block is) known)
+    (λ block stmt stmts e w past reached value known. values_assigned f past e stmt.name w known
+    (λ rhs apart is. let same = same_Some stmt.rhs rhs (sym (right_at f well block stmt stmts (lies reached)) ∙ is) in
+    subst (λ r. rhs_value (name_type f stmt.name) e r ≡ Some w) same value))
 
 -- where a run comes each readable name has its value
-pub readable_has_its_value : (f : Function) (args : List Word) → IsWellFormed f →
-    (block : Block) (stmts : List Stmt) (e : Env) →
-    Reaches f args (Inside block stmts e) → (x : ℕ) →
-    IsReadable f x block.number (map stmt_name stmts) → HasItsValue f e x
+pub readable_has_its_value : (f : Function) (args : List Word) → IsWellFormed f → (block : Block) (stmts : List Stmt) (e : Env) →
+    Reaches f args (Inside block stmts e) → (x : ℕ) → IsReadable f x block.number (map stmt_name stmts) → HasItsValue f e x
 readable_has_its_value f args well block stmts e reached x readable =
-    let known = known_there f args well (Inside block stmts e) reached in
-    known.values x readable.apart (readable.fresh known.past known.path)
+    let known = values_there f args well block stmts e reached in
+    known.keeps x readable.apart (readable.fresh known.past known.path)

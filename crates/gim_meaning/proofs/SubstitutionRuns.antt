@@ -34,6 +34,7 @@ use Rattle.gim_meaning.specs.ReachedPoints.{Spot, Between, Inside, Reaches, star
 use Rattle.gim_meaning.specs.ReachedPoints.{leave}
 use Rattle.gim_meaning.specs.KeptRuns.{AreArgumentWords, KeepsDefinedRuns}
 use Rattle.gim_meaning.specs.SameReading.{ReadsAlike}
+use Rattle.gim_meaning.proofs.AlongRuns.{start_has_no_phi}
 use Rattle.gim_meaning.proofs.Agreement.{AgreeOn, agree_assigned, agree_assigned_each}
 use Rattle.gim_meaning.proofs.ListSearch.{parts_of_found}
 use Rattle.gim_meaning.proofs.Lockstep.{GoesAlike, alike_keeps_runs, passes_alike, passes_stmt}
@@ -54,26 +55,6 @@ came_from f args _ start = inl refl
 came_from f args _ (enter place block is before) = tt
 came_from f args _ (pass block stmt stmts env w is before) = tt
 came_from f args _ (leave block env n is before) = inr (block, refl, before)
-
-no_phi : (phis : List Phi) → is_empty phis ≡ true → phis ≡ []
-no_phi [] h = refl
-no_phi (phi ∷ phis) h = cc
-
-entry_phis : (blocks : List Block) → entry_has_no_phi blocks ≡ true → (block : Block) →
-    first_where (λ (b : Block). eqb b.number (entry_of blocks)) blocks ≡ Some block →
-    block.phis ≡ []
-entry_phis [] h block is = absurd (none-some block is)
-entry_phis (b ∷ blocks) h block is =
-    let same = same_Some b block (sym (ap
-    (λ t. cond t (Some b) (first_where (λ (c : Block). eqb c.number b.number) blocks))
-    (eq-eqb b.number b.number refl)) ∙ is) in
-    sym (ap (λ (c : Block). c.phis) same) ∙ no_phi b.phis h
-
-start_has_no_phi : (f : Function) (args : List Word) → IsWellFormed f → (block : Block) →
-    block_of f (start_of f args).to ≡ Some block → block.phis ≡ []
-unfolding block_of start_of
-start_has_no_phi f args well block is = entry_phis f.blocks
-    ((and_parts _ _ (and_parts _ _ (and_parts _ _ well.blocks).0).0).0) block is
 
 -- ---- what is read
 
