@@ -9,6 +9,7 @@ mod NewRightSides
 mod NewRows
 mod OnePlace
 mod OperandsStand
+mod PhisOfOneOperand
 mod PossibleWords
 mod Reached
 mod ReadableValues

@@ -66,6 +66,16 @@ module _ {X : Type 0} (p : X → Bool) where
       by true e here rest = subst (λ t. q t ≡ true) (same_Some z x e) here
       by false e here rest = rest e
 
+  pub held_by_found : (P : X → Type 0) (xs : List X) (x : X) → first_where p xs ≡ Some x →
+      AllByRecursion P xs → P x
+  held_by_found P [] x h all = absurd (none-some x h)
+  held_by_found P (z ∷ xs) x h all = by (p z) h (λ e. held_by_found P xs x e all.1)
+    where
+      by : (b : Bool) → cond b (Some z) (first_where p xs) ≡ Some x →
+          (first_where p xs ≡ Some x → P x) → P x
+      by true e rest = subst P (same_Some z x e) all.0
+      by false e rest = rest e
+
   -- what all have that elements give, those of an element found have
   pub parts_of_found : {Y : Type 0} (P : Y → Type 0) (g : X → List Y) (xs : List X) (x : X) →
       first_where p xs ≡ Some x →
@@ -92,3 +102,15 @@ pub all_in_middle : {X : Type 0} (q : X → Bool) (front : List X) (x : X) (rest
     list_all q (front ++ x ∷ rest) ≡ true → q x ≡ true
 all_in_middle q [] x rest all = (and_parts _ _ all).0
 all_in_middle q (z ∷ front) x rest all = all_in_middle q front x rest ((and_parts _ _ all).1)
+
+pub held_in_middle : {X : Type 0} (P : X → Type 0) (front : List X) (x : X) (rest : List X) →
+    AllByRecursion P (front ++ x ∷ rest) → P x
+held_in_middle P [] x rest all = all.0
+held_in_middle P (z ∷ front) x rest all = held_in_middle P front x rest all.1
+
+-- tests of all, as facts of all
+pub each_passes : {X : Type 0} (q : X → Bool) (xs : List X) → list_all q xs ≡ true →
+    AllByRecursion (λ x. q x ≡ true) xs
+each_passes q [] h = tt
+each_passes q (x ∷ xs) h = let parts =
+    and_parts (q x) (list_all q xs) h in (parts.0, each_passes q xs parts.1)

@@ -15,7 +15,7 @@ use Rattle.gim_meaning.proofs.RightSides.{not_behind, assigned_in_found, names_d
 use Rattle.gim_meaning.proofs.RightSides.{block_distinct}
 
 -- blocks that are found and assign a name are one
-one_block : (p q : Block → Bool) (y : ℕ) (blocks : List Block) (b c : Block) →
+pub one_block : (p q : Block → Bool) (y : ℕ) (blocks : List Block) (b c : Block) →
     first_where p blocks ≡ Some b → first_where q blocks ≡ Some c →
     AreDistinct (flat_map assigned_in blocks) → Has y (assigned_in b) → Has y (assigned_in c) →
     b ≡ c

@@ -1,9 +1,8 @@
 -- Where a run comes, each readable name has the value that its operation gives: by induction over
 -- the run.
-use Rattle.std.proofs.Common.{◌≡◌, ◌≢◌, ℕ, Bool, true, false, cond, eqb, Some, List, [], ◌∷◌, ◌++◌}
-use Rattle.std.proofs.Common.{◌||◌, map, refl, sym, ap, subst, ◌∙◌, ⊎_elim}
+use Rattle.std.proofs.Common.{◌≡◌, ◌≢◌, ℕ, Bool, true, false, cond, eqb, Some, List, [], ◌∷◌}
+use Rattle.std.proofs.Common.{map, refl, sym, ap, subst, ◌∙◌, ⊎_elim}
 use Rattle.std.specs.Bool.{IsTrue}
-use Rattle.std.specs.Prelude.{option_map, ◌==◌}
 use Rattle.std.specs.Option.{option_map_or}
 use Rattle.std.specs.List.{AllByRecursion}
 use Rattle.std.proofs.lemmas.Bool.{or_left, or_right, both_ways, eq-eqb, eqb-true}
@@ -16,24 +15,18 @@ use Rattle.gim_ast.specs.declared.function.Block.{Block}
 use Rattle.gim_ast.specs.declared.function.Phi.{Phi}
 use Rattle.gim_ast.specs.declared.function.Stmt.{Stmt}
 use Rattle.gim_ast.specs.declared.function.Rhs.{Rhs}
-use Rattle.gim_ast.specs.declared.function.End.{End}
-use Rattle.gim_ast.specs.declared.function.End.TheVariants.{Goto, If, Return}
-use Rattle.gim_ast.specs.Functions.{phi_name, stmt_name, assigned_in, block_of, right_of}
-use Rattle.gim_ast.specs.Functions.{operands_of_rhs, targets_of, first_where}
+use Rattle.gim_ast.specs.Functions.{phi_name, stmt_name, right_of}
+use Rattle.gim_ast.specs.Functions.{operands_of_rhs}
 use Rattle.gim_ast.specs.WellFormed.{IsWellFormed, is_among}
-use Rattle.gim_ast.specs.Paths.{Stretch, stretch_of, flow_of, stretch_at, Path, enter, item, jump}
-use Rattle.gim_ast.specs.Paths as paths
 use Rattle.gim_ast.specs.Readable.{names_among, read_for, Supports, operand, Fresh, is_initial}
 use Rattle.gim_ast.specs.Readable.{IsReadable}
-use Rattle.gim_ast.specs.Runs.{Env, assign, assign_each, rhs_value, name_type, phi_word, To}
-use Rattle.gim_ast.specs.Runs.{lead_of, holds, start_of, entry_of}
-use Rattle.gim_meaning.specs.ReachedPoints.{Spot, Between, Inside, Reaches, Lies}
-use Rattle.gim_meaning.specs.ReachedPoints as points
+use Rattle.gim_ast.specs.Runs.{Env, assign, assign_each, rhs_value, name_type, phi_word}
+use Rattle.gim_meaning.specs.ReachedPoints.{Inside, Reaches}
 use Rattle.gim_meaning.specs.PresentValues.{HasItsValue}
 use Rattle.gim_run.specs.Blocks.{phi_pair}
 use Rattle.gim_meaning.proofs.AlongRuns.{Known, passed, known_inside}
 use Rattle.gim_meaning.proofs.Agreement.{AgreeOn, AllStand, same_value}
-use Rattle.gim_meaning.proofs.Reached.{lies, found_by_number, number_of_found}
+use Rattle.gim_meaning.proofs.Reached.{lies}
 use Rattle.gim_meaning.proofs.RightSides.{right_at, no_right_at_phis, HasNoRight}
 use Rattle.gim_meaning.proofs.RightSides.{no_right_of_initial}
 
@@ -49,7 +42,7 @@ others_agree e y w z other = by (eqb y z) refl
     by true is = absurd (other (sym (eqb-true y z is)))
     by false is = refl
 
-own_word : (e : Env) (y : ℕ) (w : Word) → assign y w e y ≡ w
+pub own_word : (e : Env) (y : ℕ) (w : Word) → assign y w e y ≡ w
 own_word e y w = rw (eq-eqb y y refl) refl
 
 -- operands among which a name isn't
@@ -113,28 +106,37 @@ values_assigned f past e y w known own x apart fresh rhs is = by (eqb x y) refl
         fresh
 
 -- past the phis of a block, which have no operation
-phis_keep_values : (f : Function) (from : ℕ) (old : Env) (phis : List Phi) (past : List ℕ) (e : Env) →
+phis_keep_values : (f : Function) (from : ℕ) (old : Env) (phis : List Phi) (past : List ℕ)
+    (e : Env) →
     AllByRecursion (HasNoRight f) phis → AreValues f past e →
     AreValues f (passed (map phi_name phis) past) (assign_each (map (phi_pair f from old) phis) e)
 phis_keep_values f from old [] past e none known = known
 phis_keep_values f from old (phi ∷ phis) past e none known =
     let w = phi_word f from old phi in
     phis_keep_values f from old phis (phi.name ∷ past) (assign phi.name w e) none.1
-    (values_assigned f past e phi.name w known (λ rhs apart is. absurd (none-some rhs (sym none.0 ∙ is))))
+    (values_assigned f past e phi.name w known
+    (λ rhs apart is. absurd (none-some rhs (sym none.0 ∙ is))))
 
-values_there : (f : Function) (args : List Word) → IsWellFormed f → (block : Block) (stmts : List Stmt) (e : Env) →
-    Reaches f args (Inside block stmts e) → Known f args (AreValues f) block.number (map stmt_name stmts) e
+values_there : (f : Function) (args : List Word) → IsWellFormed f →
+    (block : Block) (stmts : List Stmt) (e : Env) →
+    Reaches f args (Inside block stmts e) →
+    Known f args (AreValues f) block.number (map stmt_name stmts) e
 values_there f args well =
     known_inside f args (AreValues f) well
-    (λ x apart initial rhs is. absurd (none-some rhs (sym (no_right_of_initial f well x initial) ∙ is)))
-    (λ before block e n past reached leads is path known. phis_keep_values f before.number e block.phis past e (no_right_at_phis f well n block is) known)
+    (λ x apart initial rhs is. absurd
+    (none-some rhs (sym (no_right_of_initial f well x initial) ∙ is)))
+    (λ before block e n past reached leads is path known. phis_keep_values f before.number e
+    block.phis past e (no_right_at_phis f well n block is) known)
     (λ block stmt stmts e w past reached value known. values_assigned f past e stmt.name w known
-    (λ rhs apart is. let same = same_Some stmt.rhs rhs (sym (right_at f well block stmt stmts (lies reached)) ∙ is) in
+    (λ rhs apart is. let same =
+    same_Some stmt.rhs rhs (sym (right_at f well block stmt stmts (lies reached)) ∙ is) in
     subst (λ r. rhs_value (name_type f stmt.name) e r ≡ Some w) same value))
 
 -- where a run comes each readable name has its value
-pub readable_has_its_value : (f : Function) (args : List Word) → IsWellFormed f → (block : Block) (stmts : List Stmt) (e : Env) →
-    Reaches f args (Inside block stmts e) → (x : ℕ) → IsReadable f x block.number (map stmt_name stmts) → HasItsValue f e x
+pub readable_has_its_value : (f : Function) (args : List Word) → IsWellFormed f →
+    (block : Block) (stmts : List Stmt) (e : Env) →
+    Reaches f args (Inside block stmts e) → (x : ℕ) →
+    IsReadable f x block.number (map stmt_name stmts) → HasItsValue f e x
 readable_has_its_value f args well block stmts e reached x readable =
     let known = values_there f args well block stmts e reached in
     known.keeps x readable.apart (readable.fresh known.past known.path)

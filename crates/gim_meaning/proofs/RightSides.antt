@@ -32,7 +32,7 @@ use Rattle.gim_meaning.specs.ReachedPoints.{Lies}
 abbrev pub Has : ℕ → List ℕ → Type 0
 Has y xs = list_any (eqb y) xs ≡ true
 
-abbrev HasNot : ℕ → List ℕ → Type 0
+abbrev pub HasNot : ℕ → List ℕ → Type 0
 HasNot y xs = list_any (eqb y) xs ≡ false
 
 abbrev pub AreDistinct : List ℕ → Type 0
@@ -72,7 +72,7 @@ pub back_distinct : (xs ys : List ℕ) → AreDistinct (xs ++ ys) → AreDistinc
 back_distinct [] ys h = h
 back_distinct (x ∷ xs) ys h = back_distinct xs ys ((and_parts _ _ h).1)
 
-front_distinct : (xs ys : List ℕ) → AreDistinct (xs ++ ys) → AreDistinct xs
+pub front_distinct : (xs ys : List ℕ) → AreDistinct (xs ++ ys) → AreDistinct xs
 front_distinct [] ys h = refl
 front_distinct (x ∷ xs) ys h =
     let parts = and_parts (not (list_any (eqb x) (xs ++ ys))) (all_distinct eqb (xs ++ ys)) h in

@@ -4,8 +4,7 @@ use Rattle.std.proofs.Common.{◌∷◌, ◌++◌, ◌⊎◌, map, length, refl,
 use Rattle.std.specs.Prelude.{⊤}
 use Rattle.std.specs.Option.{option_map_or}
 use Rattle.std.specs.List.{flat_map, AllByRecursion}
-use Rattle.std.proofs.lemmas.Bool.{and_parts, eq-eqb, eqb-true}
-use Rattle.std.proofs.lemmas.Option.{same_Some, none-some}
+use Rattle.std.proofs.lemmas.Bool.{eqb-true}
 use Rattle.pm_wide.specs.Types.{Ty, Word, bool_type}
 use Rattle.pm_wide.specs.Operations.{operation_value}
 use Rattle.pm_wide.specs.declared.operand.Operand.{Operand}
@@ -20,12 +19,12 @@ use Rattle.gim_ast.specs.declared.function.End.{End}
 use Rattle.gim_ast.specs.declared.function.End.TheVariants.{Goto, If, Return}
 use Rattle.gim_ast.specs.Functions.{first_where, stmt_name, operands_of_rhs, operands_of_stmt}
 use Rattle.gim_ast.specs.Functions.{operands_of_end, row_of, block_of}
-use Rattle.gim_ast.specs.WellFormed.{IsWellFormed, is_empty, entry_has_no_phi}
+use Rattle.gim_ast.specs.WellFormed.{IsWellFormed}
 use Rattle.gim_ast.specs.Readable.{Use, names_among, uses_at, uses_in_phi, uses_in_phis}
 use Rattle.gim_ast.specs.Readable.{uses_in_stmts, uses_in_block, uses_in}
 use Rattle.gim_ast.specs.Runs.{Env, assign, assign_each, start_env, word_of_operand, zero_of}
 use Rattle.gim_ast.specs.Runs.{name_type, phi_word, after_phis, rhs_value, pass_stmts, lead_of, To}
-use Rattle.gim_ast.specs.Runs.{Out, Place, start_of, entry_of}
+use Rattle.gim_ast.specs.Runs.{Out, Place, start_of}
 use Rattle.gim_run.specs.Blocks.{phi_pair}
 use Rattle.gim_changes.specs.Substitution.{put, put_in_rhs, put_in_end, put_in_arg, put_in_phi}
 use Rattle.gim_changes.specs.Substitution.{put_in_stmt, put_in_block, put_in_all}
@@ -164,7 +163,7 @@ module _ (P : Use → Type 0) where
       (uses_in_stmts n (k + 1) (front ++ stmt ∷ stmts)) all)
 
   -- those of arguments
-  uses_of_args : (n k : ℕ) (args : List (ℕ × Operand)) →
+  pub uses_of_args : (n k : ℕ) (args : List (ℕ × Operand)) →
       AllByRecursion P (flat_map (λ (arg : ℕ × Operand). uses_at n k arg.0 [] (arg.1 ∷ [])) args) →
       AllByRecursion (λ (arg : ℕ × Operand). AllByRecursion P (uses_at n k arg.0 [] (arg.1 ∷ [])))
       args

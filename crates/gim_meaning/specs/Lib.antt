@@ -1,4 +1,5 @@
 pub mod KeptRuns
+pub mod PhiArguments
 pub mod PresentValues
 pub mod ReachedPoints
 pub mod SameReading

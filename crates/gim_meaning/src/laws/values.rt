@@ -8,6 +8,7 @@ ghost use Rattle.gim_ast.specs.declared.function.Block.{Block};
 ghost use Rattle.gim_ast.specs.declared.function.Decl.{Decl};
 ghost use Rattle.gim_ast.specs.declared.function.End.TheVariants.{If};
 ghost use Rattle.gim_ast.specs.declared.function.Function.{Function};
+ghost use Rattle.gim_ast.specs.declared.function.Phi.{Phi};
 ghost use Rattle.gim_ast.specs.declared.function.Rhs.{Rhs};
 ghost use Rattle.gim_ast.specs.declared.function.Stmt.{Stmt};
 ghost use Rattle.gim_ast.specs.Functions.{block_of};
@@ -15,7 +16,9 @@ ghost use Rattle.gim_ast.specs.Readable.{uses_in, IsValid};
 ghost use Rattle.gim_ast.specs.WellFormed.{IsWellFormed};
 ghost use Rattle.gim_changes.specs.Insertion.{with_stmt};
 ghost use Rattle.gim_changes.specs.Substitution.{put_in_all, with_rhs, with_condition};
+ghost use Rattle.gim_changes.specs.Validity.{OperandComesBefore};
 ghost use Rattle.gim_meaning.specs.KeptRuns.{KeepsDefinedRuns};
+ghost use Rattle.gim_meaning.specs.PhiArguments.{ReadsOnly, AreOthers};
 ghost use Rattle.gim_meaning.specs.ReachedPoints.{Lies};
 ghost use Rattle.gim_meaning.specs.SameReading.{AlwaysReadsAlike, AlwaysGivesAlike};
 ghost use Rattle.gim_meaning.specs.SameReading.{AlwaysDecidesAlike, AlwaysHasValueThere};
@@ -29,6 +32,17 @@ pub fn substitution_keeps_runs()
         KeepsDefinedRuns f (put_in_all x by f) }
     ensures by_support { (f : Function) (x : ℕ) (by : Operand) → IsValid f → FollowsFrom f x by →
         KeepsDefinedRuns f (put_in_all x by f) }
+{}
+
+/// An operand put for the name of a phi that reads nothing else, beside its own name: the operand
+    comes before the name,
+/// and no phi of the block assigns it.
+pub fn one_operand_keeps_runs()
+    ensures { (f : Function) (block : Block) (front : List Phi) (phi : Phi) (rest : List Phi)
+        (by : Operand) → IsValid f →
+        block_of f block.number ≡ Some block → block.phis ≡ front ++ phi ∷ rest → ReadsOnly by phi →
+            AreOthers by block.phis →
+        OperandComesBefore f by phi.name → KeepsDefinedRuns f (put_in_all phi.name by f) }
 {}
 
 /// A right side that has the old one's value before the statement.
