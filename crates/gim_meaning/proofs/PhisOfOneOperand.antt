@@ -1,10 +1,13 @@
 -- An operand that is all that a phi reads, beside its own name, is put for the phi's name: since it
 -- was read no path assigns it.
-use Rattle.std.proofs.Common.{◌≡◌, ◌≢◌, ℕ, ◌+◌, Bool, true, false, cond, eqb, Option, Some, None, List, [], ◌∷◌, ◌++◌, ◌⊎◌, ◌||◌, map, refl, sym, ap, subst, ◌∙◌, ⊎_elim}
+use Rattle.std.proofs.Common.{◌≡◌, ◌≢◌, ℕ, ◌+◌, Bool, true, false, cond, eqb, Option, Some, None}
+use Rattle.std.proofs.Common.{List, [], ◌∷◌, ◌++◌, ◌⊎◌, ◌||◌, map, refl, sym, ap, subst, ◌∙◌}
+use Rattle.std.proofs.Common.{⊎_elim}
 use Rattle.std.specs.Bool.{IsTrue}
 use Rattle.std.specs.Option.{option_map_or}
 use Rattle.std.specs.List.{list_any, list_all, AllByRecursion}
-use Rattle.std.proofs.lemmas.Bool.{and_parts, not-true, or_parts, or_cases, or_left, or_right, both_ways, eq-eqb, eqb-true}
+use Rattle.std.proofs.lemmas.Bool.{and_parts, not-true, or_parts, or_cases, or_left, or_right}
+use Rattle.std.proofs.lemmas.Bool.{both_ways, eq-eqb, eqb-true}
 use Rattle.std.proofs.lemmas.Option.{none-some}
 use Rattle.pm_wide.specs.Types.{Word}
 use Rattle.pm_wide.specs.declared.operand.Operand.{Operand}
@@ -13,11 +16,16 @@ use Rattle.gim_ast.specs.declared.function.Function.{Function}
 use Rattle.gim_ast.specs.declared.function.Block.{Block}
 use Rattle.gim_ast.specs.declared.function.Phi.{Phi}
 use Rattle.gim_ast.specs.declared.function.Stmt.{Stmt}
-use Rattle.gim_ast.specs.Functions.{first_where, is_name, phi_name, stmt_name, block_of, right_of, targets_of}
-use Rattle.gim_ast.specs.WellFormed.{IsWellFormed, is_among, is_assigned, phi_blocks, phi_holds, predecessors}
+use Rattle.gim_ast.specs.Functions.{first_where, is_name, phi_name, stmt_name, block_of, right_of}
+use Rattle.gim_ast.specs.Functions.{targets_of}
+use Rattle.gim_ast.specs.WellFormed.{IsWellFormed, is_among, is_assigned, phi_blocks, phi_holds}
+use Rattle.gim_ast.specs.WellFormed.{predecessors}
 use Rattle.gim_ast.specs.Paths.{flow_of, Path}
-use Rattle.gim_ast.specs.Readable.{names_among, read_for, operand, Fresh, is_initial, IsReadable, Use, uses_at, uses_in_phi, uses_in_phis, uses_in_block, uses_in, IsReadableUse, IsValid}
-use Rattle.gim_ast.specs.Runs.{Env, assign, assign_each, word_of_operand, zero_of, name_type, phi_word, after_phis, lead_of, To}
+use Rattle.gim_ast.specs.Readable.{names_among, read_for, operand, Fresh, is_initial, IsReadable}
+use Rattle.gim_ast.specs.Readable.{Use, uses_at, uses_in_phi, uses_in_phis, uses_in_block, uses_in}
+use Rattle.gim_ast.specs.Readable.{IsReadableUse, IsValid}
+use Rattle.gim_ast.specs.Runs.{Env, assign, assign_each, word_of_operand, zero_of, name_type}
+use Rattle.gim_ast.specs.Runs.{phi_word, after_phis, lead_of, To}
 use Rattle.gim_run.specs.Blocks.{phi_pair}
 use Rattle.gim_ast.proofs.ReadableLemmas.{all_left, all_right}
 use Rattle.gim_changes.specs.Substitution.{put_in_all}
@@ -31,13 +39,17 @@ use Rattle.gim_meaning.specs.ReachedPoints.{Inside, Reaches}
 use Rattle.gim_meaning.specs.SameReading.{ReadsAlike}
 use Rattle.gim_meaning.proofs.Agreement.{OperandStands, same_word}
 use Rattle.gim_meaning.proofs.AlongRuns.{passed, Known, known_inside, lead_is_target}
-use Rattle.gim_meaning.proofs.ListSearch.{found_passes, all_of_found, all_in_middle, parts_of_found, held_by_found, held_in_middle, each_passes}
+use Rattle.gim_meaning.proofs.ListSearch.{found_passes, all_of_found, all_in_middle, parts_of_found}
+use Rattle.gim_meaning.proofs.ListSearch.{held_by_found, held_in_middle, each_passes}
 use Rattle.gim_meaning.proofs.OnePlace.{one_block}
 use Rattle.gim_meaning.proofs.OperandsStand.{unused_stand}
 use Rattle.gim_meaning.proofs.ReadableValues.{IsOther, others_agree, own_word, others_stand}
 use Rattle.gim_meaning.proofs.Reached.{lies, number_of_found}
-use Rattle.gim_meaning.proofs.RightSides.{Has, HasNot, AreDistinct, in_front, front_distinct, block_distinct, names_distinct, is_assigned_in, HasNoRight, no_right_at_phis, right_at}
-use Rattle.gim_meaning.proofs.SubstitutionRuns.{each_of, uses_of_args, uses_of_block, substitution_keeps_runs}
+use Rattle.gim_meaning.proofs.RightSides.{Has, HasNot, AreDistinct, in_front, front_distinct}
+use Rattle.gim_meaning.proofs.RightSides.{block_distinct, names_distinct, is_assigned_in}
+use Rattle.gim_meaning.proofs.RightSides.{HasNoRight, no_right_at_phis, right_at}
+use Rattle.gim_meaning.proofs.SubstitutionRuns.{each_of, uses_of_args, uses_of_block}
+use Rattle.gim_meaning.proofs.SubstitutionRuns.{substitution_keeps_runs}
 
 -- ---- phis of distinct names
 

@@ -35,13 +35,11 @@ pub fn substitution_keeps_runs()
 {}
 
 /// An operand put for the name of a phi that reads nothing else, beside its own name: the operand
-    comes before the name,
-/// and no phi of the block assigns it.
+/// comes before the name, and no phi of the block assigns it.
 pub fn one_operand_keeps_runs()
     ensures { (f : Function) (block : Block) (front : List Phi) (phi : Phi) (rest : List Phi)
-        (by : Operand) → IsValid f →
-        block_of f block.number ≡ Some block → block.phis ≡ front ++ phi ∷ rest → ReadsOnly by phi →
-            AreOthers by block.phis →
+        (by : Operand) → IsValid f → block_of f block.number ≡ Some block →
+        block.phis ≡ front ++ phi ∷ rest → ReadsOnly by phi → AreOthers by block.phis →
         OperandComesBefore f by phi.name → KeepsDefinedRuns f (put_in_all phi.name by f) }
 {}
 
