@@ -24,7 +24,7 @@ stretch n assigns targets = record { number = n; assigns = assigns; targets = ta
 same_stretch : (n : ℕ) (a b c d : List ℕ) → a ≡ b → c ≡ d → stretch n a c ≡ stretch n b d
 same_stretch n a b c d assigns targets = ap (λ l. stretch n l c) assigns ∙ ap (λ l. stretch n b l) targets
 
-put_targets : (x : ℕ) (by : Operand) (end : End) → targets_of (put_in_end x by end) ≡ targets_of end
+pub put_targets : (x : ℕ) (by : Operand) (end : End) → targets_of (put_in_end x by end) ≡ targets_of end
 put_targets x by (Goto to) = refl
 put_targets x by (If code left right yes_to no_to) = refl
 put_targets x by (Return a) = refl
@@ -36,7 +36,7 @@ put_in_flow x by f = unseen stretch_of (put_in_block x by) (λ block. same_stret
     ∙ ap (λ l. map phi_name block.phis ++ l) (unseen stmt_name (put_in_stmt x by) (λ stmt. refl) block.stmts))
     (put_targets x by block.end)) f.blocks
 
-rhs_name : (x : ℕ) (rhs : Rhs) (stmt : Stmt) → stmt_name (with_rhs_in_stmt x rhs stmt) ≡ stmt_name stmt
+pub rhs_name : (x : ℕ) (rhs : Rhs) (stmt : Stmt) → stmt_name (with_rhs_in_stmt x rhs stmt) ≡ stmt_name stmt
 rhs_name x rhs stmt = elim (eqb stmt.name x) as (λ b. stmt_name (cond b (record stmt { rhs = rhs }) stmt) ≡ stmt.name) [ true ↦ refl | false ↦ refl ]
 
 pub rhs_in_flow : (x : ℕ) (rhs : Rhs) (f : Function) → flow_of (with_rhs x rhs f) ≡ flow_of f
@@ -44,7 +44,7 @@ unfolding with_rhs
 rhs_in_flow x rhs f = unseen stretch_of (λ (block : Block). record block { stmts = map (with_rhs_in_stmt x rhs) block.stmts }) (λ block. same_stretch block.number _ _ _ _
     (ap (λ l. map phi_name block.phis ++ l) (unseen stmt_name (with_rhs_in_stmt x rhs) (rhs_name x rhs) block.stmts)) refl) f.blocks
 
-condition_targets : (code : Code) (a b : Operand) (end : End) → targets_of (with_condition_in_end code a b end) ≡ targets_of end
+pub condition_targets : (code : Code) (a b : Operand) (end : End) → targets_of (with_condition_in_end code a b end) ≡ targets_of end
 condition_targets code a b (Goto to) = refl
 condition_targets code a b (If old left right yes_to no_to) = refl
 condition_targets code a b (Return c) = refl

@@ -160,7 +160,7 @@ operands_kept f holds =
     (all_from_members (operand_holds t) (operands_of f) (λ a one. operand_kept f a one (all_members (operand_holds f) (operands_of f) parts.0 a one)))
     (all_from_members (block_fits t) f.blocks (λ b one. block_kept f b one (all_members (block_fits f) f.blocks parts.1 b one)))
 
-below : (m n k : ℕ) → m ≤ n → nat_lt n k ≡ true → nat_lt m k ≡ true
+pub below : (m n k : ℕ) → m ≤ n → nat_lt n k ≡ true → nat_lt m k ≡ true
 below m n k less is = lt-ltb m k (omega (arith, ltb-true n k is, less))
 
 bounds_kept : (f : Function) → bounds_hold f ≡ true → bounds_hold (with_names (kept f) f) ≡ true
@@ -185,7 +185,7 @@ trimmed_well_formed f ready = record {
 
 -- ---- functions whose rows all stand
 
-stays_where_stands : (f : Function) (row : NameRow) → row_stands f row ≡ true → row_stays f row ≡ true
+pub stays_where_stands : (f : Function) (row : NameRow) → row_stands f row ≡ true → row_stays f row ≡ true
 stays_where_stands f row stands = ⊎_elim
     (λ initial. or_left (stands_in f row.version) (is_empty_text row.base) (used_stands f row.version initial.2))
     (λ other. ⊎_elim

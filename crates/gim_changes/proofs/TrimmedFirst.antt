@@ -15,7 +15,7 @@ use Rattle.gim_changes.proofs.Unused.{assigned_without}
 
 -- ---- tests of parts of lists
 
-either_kept : (a b c d : Bool) → (a ≡ true → c ≡ true) → (b ≡ true → d ≡ true) → (a || b) ≡ true → (c || d) ≡ true
+pub either_kept : (a b c d : Bool) → (a ≡ true → c ≡ true) → (b ≡ true → d ≡ true) → (a || b) ≡ true → (c || d) ≡ true
 either_kept true b c d h k e = or_left c d (h refl)
 either_kept false b c d h k e = or_right c d (k e)
 

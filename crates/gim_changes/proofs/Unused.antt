@@ -54,7 +54,7 @@ rows_stay f g row same =
 abbrev other : ℕ → ℕ → Bool
 other x y = not (y == x)
 
-names_of_others : {X : Type 0} (name : X → ℕ) (x : ℕ) (xs : List X) → map name (filter (λ a. other x (name a)) xs) ≡ filter (other x) (map name xs)
+pub names_of_others : {X : Type 0} (name : X → ℕ) (x : ℕ) (xs : List X) → map name (filter (λ a. other x (name a)) xs) ≡ filter (other x) (map name xs)
 names_of_others name x [] = refl
 names_of_others name x (a ∷ more) =
     let rest = names_of_others name x more in
@@ -63,7 +63,7 @@ names_of_others name x (a ∷ more) =
       | false ↦ ap (λ ys. name a ∷ ys) rest
     ]
 
-others_in_block : (x : ℕ) (block : Block) → assigned_in (without_in_block x block) ≡ filter (other x) (assigned_in block)
+pub others_in_block : (x : ℕ) (block : Block) → assigned_in (without_in_block x block) ≡ filter (other x) (assigned_in block)
 others_in_block x block =
     let in_phis = names_of_others phi_name x block.phis in
     let in_stmts = names_of_others stmt_name x block.stmts in

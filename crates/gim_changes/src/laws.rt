@@ -1,5 +1,6 @@
 //! What changes of a function keep. Each call here does nothing: its contract is a law, which its check proves.
 pub mod readability;
+pub mod validity;
 
 ghost use Rattle.std.specs.Prelude.{◌≡◌, ℕ, None, map};
 ghost use Rattle.std.specs.List.{count_by};
