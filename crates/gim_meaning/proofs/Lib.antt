@@ -1,4 +1,5 @@
 mod Agreement
+mod AllowedInsertions
 mod AlongRuns
 mod BlockOfPlace
 mod InsertionRuns

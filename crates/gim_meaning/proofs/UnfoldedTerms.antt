@@ -30,13 +30,15 @@ use Rattle.gim_ast.specs.Functions.{right_of, row_of, block_of, stmt_name, opera
 use Rattle.gim_ast.specs.Functions.{operands_of_stmt, operands_of_end}
 use Rattle.gim_ast.specs.Readable.{names_among, operand, IsReadable, Use, uses_in_stmts}
 use Rattle.gim_ast.specs.Readable.{uses_in_block, uses_in, IsReadableUse, IsValid}
-use Rattle.gim_ast.specs.WellFormed.{is_among, type_of, operand_holds, end_fits}
+use Rattle.gim_ast.specs.WellFormed.{is_assigned, is_among, type_of, operand_holds, end_fits}
 use Rattle.gim_ast.specs.Runs.{Env, word_of_operand, zero_of, rhs_value, name_type, holds}
 use Rattle.gim_run.specs.Blocks.{phi_holds, end_holds, block_holds}
 use Rattle.gim_run.specs.Slots.{stmt_holds}
 use Rattle.gim_ast.proofs.ReadableLemmas.{support_is_readable}
 use Rattle.gim_changes.specs.Substitution.{put_in_all, with_rhs, with_condition}
 use Rattle.gim_changes.specs.Insertion.{with_stmt}
+use Rattle.gim_changes.specs.Validity.{ComesBefore, OperandComesBefore}
+use Rattle.gim_changes.proofs.ComesBefore.{before_is_readable}
 use Rattle.gim_meaning.specs.KeptRuns.{KeepsDefinedRuns}
 use Rattle.gim_meaning.specs.PresentValues.{AreTyped, ArePossible}
 use Rattle.gim_meaning.specs.ReachedPoints.{Lies}
@@ -240,6 +242,17 @@ refining_support_keeps_runs f x t by before after valid supports =
     reads (Name y u) of_support n left readable =
         support_is_readable f valid x y n left readable of_support
     reads (Const w) of_support n left readable = tt
+
+pub refining_earlier_keeps_runs : (f : Function) (x : ℕ) (t : Ty) (by : Operand) (before after : Tree) → IsValid f → is_assigned f x ≡ true → OperandComesBefore f by x →
+    Unfolds f (Name x t) before → Unfolds f by after → Refines before after → KeepsDefinedRuns f (put_in_all x by f)
+refining_earlier_keeps_runs f x t by before after valid assigned comes =
+    refining_operand_keeps_runs f x t by before after valid
+    (each_of (IsReadableUse f) (λ (place : Use). place.name ≡ x → MayRead f place.at place.left by)
+    (λ place readable name. reads by comes place.at place.left (subst (λ y. IsReadable f y place.at place.left) name readable)) (uses_in f) valid.readable)
+  where
+    reads : (a : Operand) → OperandComesBefore f a x → (n : ℕ) (left : List ℕ) → IsReadable f x n left → MayRead f n left a
+    reads (Name y u) earlier n left readable = before_is_readable f valid x y n left assigned earlier.readable readable
+    reads (Const w) earlier n left readable = tt
 
 -- a comparison always has a value
 comparison_has_value : (code : Code) (a b : Word) → is_comparison_code code ≡ true →

@@ -1,9 +1,8 @@
 //! Which changes keep every defined run, by what holds where runs come.
-ghost use Rattle.std.specs.Prelude.{◌≡◌, ℕ, false, Some, List, ◌++◌, length, slice_get};
+ghost use Rattle.std.specs.Prelude.{◌≡◌, ℕ, false, drop};
 ghost use Rattle.std.specs.List.{AllByRecursion};
 ghost use Rattle.pm_ops.specs.declared.code.Code.{Code};
 ghost use Rattle.pm_wide.specs.declared.operand.Operand.{Operand};
-ghost use Rattle.gim_ast.specs.declared.function.Block.{Block};
 ghost use Rattle.gim_ast.specs.declared.function.Decl.{Decl};
 ghost use Rattle.gim_ast.specs.declared.function.Function.{Function};
 ghost use Rattle.gim_ast.specs.declared.function.Rhs.{Rhs};
@@ -11,13 +10,12 @@ ghost use Rattle.gim_ast.specs.declared.function.Stmt.{Stmt};
 ghost use Rattle.gim_ast.specs.Functions.{is_used};
 ghost use Rattle.gim_ast.specs.Readable.{uses_in};
 ghost use Rattle.gim_ast.specs.WellFormed.{IsWellFormed};
-ghost use Rattle.gim_changes.specs.Insertion.{with_stmt};
+ghost use Rattle.gim_changes.specs.Insertion.{with_stmt, MayBeInserted};
 ghost use Rattle.gim_changes.specs.Removal.{without, pruned};
 ghost use Rattle.gim_changes.specs.Substitution.{put_in_all, with_rhs, with_condition};
 ghost use Rattle.gim_changes.specs.Trimming.{trimmed, tidied};
 ghost use Rattle.gim_meaning.specs.KeptRuns.{KeepsDefinedRuns};
-ghost use Rattle.gim_meaning.specs.SameReading.{ReadsAlike, GivesAlike, DecidesAlike};
-ghost use Rattle.gim_meaning.specs.SameReading.{HasValueThere, IsNewStmt};
+ghost use Rattle.gim_meaning.specs.SameReading.{ReadsAlike, GivesAlike, DecidesAlike, HasValueThere};
 
 /// A function keeps its own runs, and what two changes keep one after the other, both together
 /// keep.
@@ -61,11 +59,9 @@ pub fn condition_keeps_runs()
         KeepsDefinedRuns f (with_condition n code a b f) }
 {}
 
-/// A new statement, whose name no row of `names` has as yet, keeps every defined run where its
-/// operation has a value whenever a run comes to its place and goes on from there.
+/// A statement that may be inserted keeps every defined run where its operation has a value whenever a run comes to its
+/// place and goes on from there.
 pub fn insertion_keeps_runs()
-    ensures { (f : Function) (place : ℕ) (home : Block) (front rest : List Stmt) (stmt : Stmt)
-        (decl : Decl) → IsWellFormed f → slice_get f.blocks place ≡ Some home →
-        home.stmts ≡ front ++ rest → IsNewStmt f stmt → HasValueThere f home rest decl.ty stmt.rhs →
-        KeepsDefinedRuns f (with_stmt place (length front) stmt decl f) }
+    ensures { (f : Function) (place before : ℕ) (stmt : Stmt) (decl : Decl) (allowed : MayBeInserted f place before stmt decl) → IsWellFormed f →
+        HasValueThere f allowed.home (drop before allowed.home.stmts) decl.ty stmt.rhs → KeepsDefinedRuns f (with_stmt place before stmt decl f) }
 {}

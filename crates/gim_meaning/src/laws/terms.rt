@@ -1,7 +1,7 @@
 //! Which changes keep every defined run, by what holds of terms: what stands there stands for one
 //! term, what comes for another, and the second has the first one's value wherever that has one,
 //! whatever words the names of both have.
-ghost use Rattle.std.specs.Prelude.{◌≡◌, ℕ, Some, List, [], ◌∷◌, ◌++◌, length, map, slice_get};
+ghost use Rattle.std.specs.Prelude.{◌≡◌, ℕ, IsTrue, Some, List, [], ◌∷◌, drop, map};
 ghost use Rattle.std.specs.List.{AllByRecursion};
 ghost use Rattle.pm_ops.specs.declared.code.Code.{Code};
 ghost use Rattle.pm_term.specs.Terms.{term_value};
@@ -19,13 +19,13 @@ ghost use Rattle.gim_ast.specs.declared.function.Stmt.{Stmt};
 ghost use Rattle.gim_ast.specs.Functions.{block_of, stmt_name, operands_of_rhs, operands_of_stmt};
 ghost use Rattle.gim_ast.specs.Readable.{Use, uses_in, IsValid};
 ghost use Rattle.gim_ast.specs.Runs.{Env, name_type, rhs_value, word_of_operand};
-ghost use Rattle.gim_ast.specs.WellFormed.{IsWellFormed};
-ghost use Rattle.gim_changes.specs.Insertion.{with_stmt};
+ghost use Rattle.gim_ast.specs.WellFormed.{IsWellFormed, is_assigned};
+ghost use Rattle.gim_changes.specs.Insertion.{with_stmt, MayBeInserted};
 ghost use Rattle.gim_changes.specs.Substitution.{put_in_all, with_rhs, with_condition};
+ghost use Rattle.gim_changes.specs.Validity.{OperandComesBefore};
 ghost use Rattle.gim_meaning.specs.KeptRuns.{KeepsDefinedRuns};
 ghost use Rattle.gim_meaning.specs.PresentValues.{AreTyped, ArePossible};
 ghost use Rattle.gim_meaning.specs.ReachedPoints.{Lies};
-ghost use Rattle.gim_meaning.specs.SameReading.{IsNewStmt};
 ghost use Rattle.gim_meaning.specs.Unfolding.{Unfolds, UnfoldsRight, MayRead, IsOfSupport};
 ghost use Rattle.gim_meaning.specs.Unfolding.{words_in, AreWordsOfNames, Refines, IsDefinedWith};
 
@@ -42,12 +42,13 @@ pub fn terms_have_the_values_that_they_stand_for()
         term_value (words_in env) term ≡ rhs_value t env rhs }
 {}
 
-/// An operand put for a name: it is of the name's support, or else readable at each use of the
-/// name.
+/// An operand put for a name: it is of the name's support, or comes before the name, or else is readable at each use of it.
 pub fn substitution_keeps_runs()
     ensures of_support { (f : Function) (x : ℕ) (t : Ty) (by : Operand) (before after : Tree) →
         IsValid f → IsOfSupport f x by → Unfolds f (Name x t) before → Unfolds f by after →
         Refines before after → KeepsDefinedRuns f (put_in_all x by f) }
+    ensures comes_before { (f : Function) (x : ℕ) (t : Ty) (by : Operand) (before after : Tree) → IsValid f → IsTrue (is_assigned f x) → OperandComesBefore f by x →
+        Unfolds f (Name x t) before → Unfolds f by after → Refines before after → KeepsDefinedRuns f (put_in_all x by f) }
     ensures readable { (f : Function) (x : ℕ) (t : Ty) (by : Operand) (before after : Tree) →
         IsValid f → AllByRecursion (λ (place : Use). place.name ≡ x →
         MayRead f place.at place.left by) (uses_in f) → Unfolds f (Name x t) before →
@@ -75,38 +76,22 @@ pub fn condition_keeps_runs()
         KeepsDefinedRuns f (with_condition block.number code a b f) }
 {}
 
-/// A new statement, which has a value wherever the statement or the condition has one before which
-/// it is put.
+/// A statement that may be inserted, and has a value wherever the statement or the condition has one before which it is put.
 pub fn insertion_keeps_runs()
-    ensures before_stmt { (f : Function) (place : ℕ) (home : Block) (front : List Stmt)
-        (next : Stmt) (rest : List Stmt) (stmt : Stmt) (decl : Decl) (before part : Tree) →
-        IsValid f → slice_get f.blocks place ≡ Some home → home.stmts ≡ front ++ next ∷ rest →
-        IsNewStmt f stmt → AllByRecursion (MayRead f home.number (map stmt_name (next ∷ rest)))
-        (operands_of_stmt stmt) → UnfoldsRight f (name_type f next.name) next.rhs before →
-        UnfoldsRight f decl.ty stmt.rhs part → IsDefinedWith before part →
-        KeepsDefinedRuns f (with_stmt place (length front) stmt decl f) }
-    ensures before_end { (f : Function) (place : ℕ) (home : Block) (old : Code) (a b : Operand)
-        (yes_to no_to : ℕ) (stmt : Stmt) (decl : Decl) (before part : Tree) → IsValid f →
-        slice_get f.blocks place ≡ Some home → home.end ≡ If old a b yes_to no_to →
-        IsNewStmt f stmt → AllByRecursion (MayRead f home.number []) (operands_of_stmt stmt) →
-        UnfoldsRight f bool_type (Op old (a ∷ b ∷ [])) before →
-        UnfoldsRight f decl.ty stmt.rhs part → IsDefinedWith before part →
-        KeepsDefinedRuns f (with_stmt place (length home.stmts) stmt decl f) }
+    ensures before_stmt { (f : Function) (place before : ℕ) (stmt : Stmt) (decl : Decl) (allowed : MayBeInserted f place before stmt decl) (next : Stmt) (rest : List Stmt) (old part : Tree) →
+        IsValid f → drop before allowed.home.stmts ≡ next ∷ rest → UnfoldsRight f (name_type f next.name) next.rhs old → UnfoldsRight f decl.ty stmt.rhs part →
+        IsDefinedWith old part → KeepsDefinedRuns f (with_stmt place before stmt decl f) }
+    ensures before_end { (f : Function) (place before : ℕ) (stmt : Stmt) (decl : Decl) (allowed : MayBeInserted f place before stmt decl) (code : Code) (a b : Operand) (yes_to no_to : ℕ) (old part : Tree) →
+        IsValid f → drop before allowed.home.stmts ≡ [] → allowed.home.end ≡ If code a b yes_to no_to → UnfoldsRight f bool_type (Op code (a ∷ b ∷ [])) old → UnfoldsRight f decl.ty stmt.rhs part →
+        IsDefinedWith old part → KeepsDefinedRuns f (with_stmt place before stmt decl f) }
 {}
 
-/// Past such a statement terms stand for what they stood for, and the new name stands for what its
-/// right side does.
+/// Past such a statement terms stand for what they stood for, and the new name stands for what its right side does.
 pub fn insertion_keeps_terms()
-    ensures operands { (f : Function) (place : ℕ) (home : Block) (before : ℕ) (stmt : Stmt)
-        (decl : Decl) (a : Operand) (term : Tree) → IsWellFormed f →
-        slice_get f.blocks place ≡ Some home → IsNewStmt f stmt → Unfolds f a term →
-        Unfolds (with_stmt place before stmt decl f) a term }
-    ensures right_sides { (f : Function) (place : ℕ) (home : Block) (before : ℕ) (stmt : Stmt)
-        (decl : Decl) (t : Ty) (rhs : Rhs) (term : Tree) → IsWellFormed f →
-        slice_get f.blocks place ≡ Some home → IsNewStmt f stmt → UnfoldsRight f t rhs term →
-        UnfoldsRight (with_stmt place before stmt decl f) t rhs term }
-    ensures new { (f : Function) (place : ℕ) (home : Block) (before : ℕ) (stmt : Stmt) (decl : Decl)
-        (t : Ty) (term : Tree) → IsWellFormed f → slice_get f.blocks place ≡ Some home →
-        IsNewStmt f stmt → UnfoldsRight f decl.ty stmt.rhs term →
-        Unfolds (with_stmt place before stmt decl f) (Name stmt.name t) term }
+    ensures operands { (f : Function) (place before : ℕ) (stmt : Stmt) (decl : Decl) (a : Operand) (term : Tree) →
+        IsWellFormed f → MayBeInserted f place before stmt decl → Unfolds f a term → Unfolds (with_stmt place before stmt decl f) a term }
+    ensures right_sides { (f : Function) (place before : ℕ) (stmt : Stmt) (decl : Decl) (t : Ty) (rhs : Rhs) (term : Tree) →
+        IsWellFormed f → MayBeInserted f place before stmt decl → UnfoldsRight f t rhs term → UnfoldsRight (with_stmt place before stmt decl f) t rhs term }
+    ensures new { (f : Function) (place before : ℕ) (stmt : Stmt) (decl : Decl) (t : Ty) (term : Tree) →
+        IsWellFormed f → MayBeInserted f place before stmt decl → UnfoldsRight f decl.ty stmt.rhs term → Unfolds (with_stmt place before stmt decl f) (Name stmt.name t) term }
 {}

@@ -1,6 +1,6 @@
 //! Which changes keep every defined run, by what holds of all words that names may have at a point:
 //! words of their types with which each readable name has the value of its operation.
-ghost use Rattle.std.specs.Prelude.{◌≡◌, ℕ, Some, List, ◌∷◌, ◌++◌, length, slice_get};
+ghost use Rattle.std.specs.Prelude.{◌≡◌, ℕ, Some, List, ◌∷◌, ◌++◌, drop};
 ghost use Rattle.std.specs.List.{AllByRecursion};
 ghost use Rattle.pm_ops.specs.declared.code.Code.{Code};
 ghost use Rattle.pm_wide.specs.declared.operand.Operand.{Operand};
@@ -14,7 +14,7 @@ ghost use Rattle.gim_ast.specs.declared.function.Stmt.{Stmt};
 ghost use Rattle.gim_ast.specs.Functions.{block_of};
 ghost use Rattle.gim_ast.specs.Readable.{uses_in, IsValid};
 ghost use Rattle.gim_ast.specs.WellFormed.{IsWellFormed};
-ghost use Rattle.gim_changes.specs.Insertion.{with_stmt};
+ghost use Rattle.gim_changes.specs.Insertion.{with_stmt, MayBeInserted};
 ghost use Rattle.gim_changes.specs.Substitution.{put_in_all, with_rhs, with_condition};
 ghost use Rattle.gim_changes.specs.Validity.{OperandComesBefore};
 ghost use Rattle.gim_meaning.specs.KeptRuns.{KeepsDefinedRuns};
@@ -22,7 +22,7 @@ ghost use Rattle.gim_meaning.specs.PhiArguments.{ReadsOnly, AreOthers};
 ghost use Rattle.gim_meaning.specs.ReachedPoints.{Lies};
 ghost use Rattle.gim_meaning.specs.SameReading.{AlwaysReadsAlike, AlwaysGivesAlike};
 ghost use Rattle.gim_meaning.specs.SameReading.{AlwaysDecidesAlike, AlwaysHasValueThere};
-ghost use Rattle.gim_meaning.specs.SameReading.{FollowsFrom, IsNewStmt};
+ghost use Rattle.gim_meaning.specs.SameReading.{FollowsFrom};
 
 /// An operand put for a name: it has the name's word at each use, or, in a valid function, it
 /// follows from the values of the name and of its support.
@@ -59,11 +59,8 @@ pub fn condition_keeps_runs()
         KeepsDefinedRuns f (with_condition block.number code a b f) }
 {}
 
-/// A new statement that has a value at its place wherever what stands there has one.
+/// A statement that may be inserted and has a value at its place wherever what stands there has one.
 pub fn insertion_keeps_runs()
-    ensures { (f : Function) (place : ℕ) (home : Block) (front rest : List Stmt) (stmt : Stmt)
-        (decl : Decl) → IsWellFormed f → slice_get f.blocks place ≡ Some home →
-        home.stmts ≡ front ++ rest → IsNewStmt f stmt →
-        AlwaysHasValueThere f home rest decl.ty stmt.rhs →
-        KeepsDefinedRuns f (with_stmt place (length front) stmt decl f) }
+    ensures { (f : Function) (place before : ℕ) (stmt : Stmt) (decl : Decl) (allowed : MayBeInserted f place before stmt decl) → IsWellFormed f →
+        AlwaysHasValueThere f allowed.home (drop before allowed.home.stmts) decl.ty stmt.rhs → KeepsDefinedRuns f (with_stmt place before stmt decl f) }
 {}
