@@ -2,6 +2,7 @@ mod Agreement
 mod AllowedInsertions
 mod AlongRuns
 mod BlockOfPlace
+mod Copies
 mod InsertionRuns
 mod KeptInARow
 mod ListSearch

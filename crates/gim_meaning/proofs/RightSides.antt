@@ -131,7 +131,7 @@ no_stmt_in y block h =
     (list_any (eqb y) (map stmt_name block.stmts))
     (sym (list_any-append (eqb y) (map phi_name block.phis) (map stmt_name block.stmts)) ∙ h)).1)
 
-no_stmt_among : (y : ℕ) (blocks : List Block) → HasNot y (flat_map assigned_in blocks) →
+pub no_stmt_among : (y : ℕ) (blocks : List Block) → HasNot y (flat_map assigned_in blocks) →
     first_where (assigns y) (flat_map stmts_in blocks) ≡ None
 no_stmt_among y [] h = refl
 no_stmt_among y (block ∷ blocks) h =

@@ -56,7 +56,7 @@ use Rattle.gim_meaning.proofs.TypedWords.{zero_is_word, block_is_right}
 
 -- ---- words
 
-same_type_with_itself : (t : Ty) → same_type t t ≡ true
+pub same_type_with_itself : (t : Ty) → same_type t t ≡ true
 same_type_with_itself t = grind arith
 
 module _ (f : Function) (env : Env) (typed : AreTyped f env) where
@@ -243,15 +243,20 @@ refining_support_keeps_runs f x t by before after valid supports =
         support_is_readable f valid x y n left readable of_support
     reads (Const w) of_support n left readable = tt
 
-pub refining_earlier_keeps_runs : (f : Function) (x : ℕ) (t : Ty) (by : Operand) (before after : Tree) → IsValid f → is_assigned f x ≡ true → OperandComesBefore f by x →
-    Unfolds f (Name x t) before → Unfolds f by after → Refines before after → KeepsDefinedRuns f (put_in_all x by f)
+pub refining_earlier_keeps_runs : (f : Function) (x : ℕ) (t : Ty) (by : Operand)
+    (before after : Tree) → IsValid f → is_assigned f x ≡ true → OperandComesBefore f by x →
+    Unfolds f (Name x t) before → Unfolds f by after → Refines before after →
+    KeepsDefinedRuns f (put_in_all x by f)
 refining_earlier_keeps_runs f x t by before after valid assigned comes =
     refining_operand_keeps_runs f x t by before after valid
     (each_of (IsReadableUse f) (λ (place : Use). place.name ≡ x → MayRead f place.at place.left by)
-    (λ place readable name. reads by comes place.at place.left (subst (λ y. IsReadable f y place.at place.left) name readable)) (uses_in f) valid.readable)
+    (λ place readable name. reads by comes place.at place.left
+    (subst (λ y. IsReadable f y place.at place.left) name readable)) (uses_in f) valid.readable)
   where
-    reads : (a : Operand) → OperandComesBefore f a x → (n : ℕ) (left : List ℕ) → IsReadable f x n left → MayRead f n left a
-    reads (Name y u) earlier n left readable = before_is_readable f valid x y n left assigned earlier.readable readable
+    reads : (a : Operand) → OperandComesBefore f a x → (n : ℕ) (left : List ℕ) →
+        IsReadable f x n left → MayRead f n left a
+    reads (Name y u) earlier n left readable =
+        before_is_readable f valid x y n left assigned earlier.readable readable
     reads (Const w) earlier n left readable = tt
 
 -- a comparison always has a value

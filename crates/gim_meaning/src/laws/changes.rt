@@ -15,7 +15,8 @@ ghost use Rattle.gim_changes.specs.Removal.{without, pruned};
 ghost use Rattle.gim_changes.specs.Substitution.{put_in_all, with_rhs, with_condition};
 ghost use Rattle.gim_changes.specs.Trimming.{trimmed, tidied};
 ghost use Rattle.gim_meaning.specs.KeptRuns.{KeepsDefinedRuns};
-ghost use Rattle.gim_meaning.specs.SameReading.{ReadsAlike, GivesAlike, DecidesAlike, HasValueThere};
+ghost use Rattle.gim_meaning.specs.SameReading.{ReadsAlike, GivesAlike, DecidesAlike};
+ghost use Rattle.gim_meaning.specs.SameReading.{HasValueThere};
 
 /// A function keeps its own runs, and what two changes keep one after the other, both together
 /// keep.
@@ -59,9 +60,11 @@ pub fn condition_keeps_runs()
         KeepsDefinedRuns f (with_condition n code a b f) }
 {}
 
-/// A statement that may be inserted keeps every defined run where its operation has a value whenever a run comes to its
-/// place and goes on from there.
+/// A statement that may be inserted keeps every defined run where its operation has a value
+/// whenever a run comes to its place and goes on from there.
 pub fn insertion_keeps_runs()
-    ensures { (f : Function) (place before : ℕ) (stmt : Stmt) (decl : Decl) (allowed : MayBeInserted f place before stmt decl) → IsWellFormed f →
-        HasValueThere f allowed.home (drop before allowed.home.stmts) decl.ty stmt.rhs → KeepsDefinedRuns f (with_stmt place before stmt decl f) }
+    ensures { (f : Function) (place before : ℕ) (stmt : Stmt) (decl : Decl)
+        (allowed : MayBeInserted f place before stmt decl) → IsWellFormed f →
+        HasValueThere f allowed.home (drop before allowed.home.stmts) decl.ty stmt.rhs →
+        KeepsDefinedRuns f (with_stmt place before stmt decl f) }
 {}

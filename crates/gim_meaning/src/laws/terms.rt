@@ -42,13 +42,16 @@ pub fn terms_have_the_values_that_they_stand_for()
         term_value (words_in env) term ≡ rhs_value t env rhs }
 {}
 
-/// An operand put for a name: it is of the name's support, or comes before the name, or else is readable at each use of it.
+/// An operand put for a name: it is of the name's support, or comes before the name, or else is
+/// readable at each use of it.
 pub fn substitution_keeps_runs()
     ensures of_support { (f : Function) (x : ℕ) (t : Ty) (by : Operand) (before after : Tree) →
         IsValid f → IsOfSupport f x by → Unfolds f (Name x t) before → Unfolds f by after →
         Refines before after → KeepsDefinedRuns f (put_in_all x by f) }
-    ensures comes_before { (f : Function) (x : ℕ) (t : Ty) (by : Operand) (before after : Tree) → IsValid f → IsTrue (is_assigned f x) → OperandComesBefore f by x →
-        Unfolds f (Name x t) before → Unfolds f by after → Refines before after → KeepsDefinedRuns f (put_in_all x by f) }
+    ensures comes_before { (f : Function) (x : ℕ) (t : Ty) (by : Operand) (before after : Tree) →
+        IsValid f → IsTrue (is_assigned f x) → OperandComesBefore f by x →
+        Unfolds f (Name x t) before → Unfolds f by after → Refines before after →
+        KeepsDefinedRuns f (put_in_all x by f) }
     ensures readable { (f : Function) (x : ℕ) (t : Ty) (by : Operand) (before after : Tree) →
         IsValid f → AllByRecursion (λ (place : Use). place.name ≡ x →
         MayRead f place.at place.left by) (uses_in f) → Unfolds f (Name x t) before →
@@ -76,22 +79,33 @@ pub fn condition_keeps_runs()
         KeepsDefinedRuns f (with_condition block.number code a b f) }
 {}
 
-/// A statement that may be inserted, and has a value wherever the statement or the condition has one before which it is put.
+/// A statement that may be inserted, and has a value wherever the statement or the condition has
+/// one before which it is put.
 pub fn insertion_keeps_runs()
-    ensures before_stmt { (f : Function) (place before : ℕ) (stmt : Stmt) (decl : Decl) (allowed : MayBeInserted f place before stmt decl) (next : Stmt) (rest : List Stmt) (old part : Tree) →
-        IsValid f → drop before allowed.home.stmts ≡ next ∷ rest → UnfoldsRight f (name_type f next.name) next.rhs old → UnfoldsRight f decl.ty stmt.rhs part →
+    ensures before_stmt { (f : Function) (place before : ℕ) (stmt : Stmt) (decl : Decl)
+        (allowed : MayBeInserted f place before stmt decl) (next : Stmt) (rest : List Stmt)
+        (old part : Tree) → IsValid f → drop before allowed.home.stmts ≡ next ∷ rest →
+        UnfoldsRight f (name_type f next.name) next.rhs old → UnfoldsRight f decl.ty stmt.rhs part →
         IsDefinedWith old part → KeepsDefinedRuns f (with_stmt place before stmt decl f) }
-    ensures before_end { (f : Function) (place before : ℕ) (stmt : Stmt) (decl : Decl) (allowed : MayBeInserted f place before stmt decl) (code : Code) (a b : Operand) (yes_to no_to : ℕ) (old part : Tree) →
-        IsValid f → drop before allowed.home.stmts ≡ [] → allowed.home.end ≡ If code a b yes_to no_to → UnfoldsRight f bool_type (Op code (a ∷ b ∷ [])) old → UnfoldsRight f decl.ty stmt.rhs part →
+    ensures before_end { (f : Function) (place before : ℕ) (stmt : Stmt) (decl : Decl)
+        (allowed : MayBeInserted f place before stmt decl) (code : Code) (a b : Operand)
+        (yes_to no_to : ℕ) (old part : Tree) → IsValid f → drop before allowed.home.stmts ≡ [] →
+        allowed.home.end ≡ If code a b yes_to no_to →
+        UnfoldsRight f bool_type (Op code (a ∷ b ∷ [])) old → UnfoldsRight f decl.ty stmt.rhs part →
         IsDefinedWith old part → KeepsDefinedRuns f (with_stmt place before stmt decl f) }
 {}
 
-/// Past such a statement terms stand for what they stood for, and the new name stands for what its right side does.
+/// Past such a statement terms stand for what they stood for, and the new name stands for what its
+/// right side does.
 pub fn insertion_keeps_terms()
-    ensures operands { (f : Function) (place before : ℕ) (stmt : Stmt) (decl : Decl) (a : Operand) (term : Tree) →
-        IsWellFormed f → MayBeInserted f place before stmt decl → Unfolds f a term → Unfolds (with_stmt place before stmt decl f) a term }
-    ensures right_sides { (f : Function) (place before : ℕ) (stmt : Stmt) (decl : Decl) (t : Ty) (rhs : Rhs) (term : Tree) →
-        IsWellFormed f → MayBeInserted f place before stmt decl → UnfoldsRight f t rhs term → UnfoldsRight (with_stmt place before stmt decl f) t rhs term }
-    ensures new { (f : Function) (place before : ℕ) (stmt : Stmt) (decl : Decl) (t : Ty) (term : Tree) →
-        IsWellFormed f → MayBeInserted f place before stmt decl → UnfoldsRight f decl.ty stmt.rhs term → Unfolds (with_stmt place before stmt decl f) (Name stmt.name t) term }
+    ensures operands { (f : Function) (place before : ℕ) (stmt : Stmt) (decl : Decl) (a : Operand)
+        (term : Tree) → IsWellFormed f → MayBeInserted f place before stmt decl → Unfolds f a term →
+        Unfolds (with_stmt place before stmt decl f) a term }
+    ensures right_sides { (f : Function) (place before : ℕ) (stmt : Stmt) (decl : Decl) (t : Ty)
+        (rhs : Rhs) (term : Tree) → IsWellFormed f → MayBeInserted f place before stmt decl →
+        UnfoldsRight f t rhs term → UnfoldsRight (with_stmt place before stmt decl f) t rhs term }
+    ensures new { (f : Function) (place before : ℕ) (stmt : Stmt) (decl : Decl) (t : Ty)
+        (term : Tree) → IsWellFormed f → MayBeInserted f place before stmt decl →
+        UnfoldsRight f decl.ty stmt.rhs term →
+        Unfolds (with_stmt place before stmt decl f) (Name stmt.name t) term }
 {}

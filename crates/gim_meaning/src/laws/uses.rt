@@ -13,10 +13,12 @@ ghost use Rattle.gim_changes.specs.Substitution.{put_in_all};
 ghost use Rattle.gim_changes.specs.Trimming.{tidied};
 ghost use Rattle.gim_meaning.specs.KeptRuns.{KeepsDefinedRuns};
 
-/// What a statement copies is put for its name: by the values of names.
+/// What a statement copies is put for its name: by the values of names. The function stays valid.
 pub fn copies_may_go()
-    ensures { (f : Function) (x : ℕ) (by : Operand) → IsValid f → right_of f x ≡ Some (Copy by) →
-        KeepsDefinedRuns f (tidied (put_in_all x by f)) }
+    ensures valid { (f : Function) (x : ℕ) (by : Operand) → IsValid f →
+        right_of f x ≡ Some (Copy by) → IsValid (tidied (put_in_all x by f)) }
+    ensures runs { (f : Function) (x : ℕ) (by : Operand) → IsValid f →
+        right_of f x ≡ Some (Copy by) → KeepsDefinedRuns f (tidied (put_in_all x by f)) }
 {}
 
 /// For `y = x - b`, where `x = a + b`, a is put: by terms.

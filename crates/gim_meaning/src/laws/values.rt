@@ -59,8 +59,11 @@ pub fn condition_keeps_runs()
         KeepsDefinedRuns f (with_condition block.number code a b f) }
 {}
 
-/// A statement that may be inserted and has a value at its place wherever what stands there has one.
+/// A statement that may be inserted and has a value at its place wherever what stands there has
+/// one.
 pub fn insertion_keeps_runs()
-    ensures { (f : Function) (place before : ℕ) (stmt : Stmt) (decl : Decl) (allowed : MayBeInserted f place before stmt decl) → IsWellFormed f →
-        AlwaysHasValueThere f allowed.home (drop before allowed.home.stmts) decl.ty stmt.rhs → KeepsDefinedRuns f (with_stmt place before stmt decl f) }
+    ensures { (f : Function) (place before : ℕ) (stmt : Stmt) (decl : Decl)
+        (allowed : MayBeInserted f place before stmt decl) → IsWellFormed f →
+        AlwaysHasValueThere f allowed.home (drop before allowed.home.stmts) decl.ty stmt.rhs →
+        KeepsDefinedRuns f (with_stmt place before stmt decl f) }
 {}

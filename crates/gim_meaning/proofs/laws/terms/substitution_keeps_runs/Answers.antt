@@ -1,4 +1,6 @@
-use Rattle.gim_meaning.proofs.UnfoldedTerms.{refining_support_keeps_runs, refining_earlier_keeps_runs, refining_operand_keeps_runs}
+use Rattle.gim_meaning.proofs.UnfoldedTerms.{refining_support_keeps_runs}
+use Rattle.gim_meaning.proofs.UnfoldedTerms.{refining_earlier_keeps_runs}
+use Rattle.gim_meaning.proofs.UnfoldedTerms.{refining_operand_keeps_runs}
 use Rattle.gim_meaning.proofs.laws.terms.substitution_keeps_runs.Goals as goal
 
 pub returns-clause-of_support : goal.returns-clause-of_support
