@@ -1,10 +1,10 @@
 -- What a statement copies is put for its name.
-use Rattle.std.proofs.Common.{◌≡◌, ℕ, Bool, true, false, Option, Some, None, [], ◌∷◌, eqb, refl}
+use Rattle.std.proofs.Common.{◌≡◌, ℕ, true, false, Option, Some, None, [], ◌∷◌, eqb, refl}
 use Rattle.std.proofs.Common.{sym, subst}
 use Rattle.std.specs.Option.{option_map_or}
 use Rattle.std.proofs.lemmas.Bool.{and_parts, or_left, both_ways, eq-eqb}
 use Rattle.std.proofs.lemmas.Option.{same_Some}
-use Rattle.pm_wide.specs.Types.{Ty, same_type}
+use Rattle.pm_wide.specs.Types.{same_type}
 use Rattle.pm_wide.specs.declared.operand.Operand.{Operand}
 use Rattle.pm_wide.specs.declared.operand.Operand.TheVariants.{Name, Const}
 use Rattle.pm_wide.proofs.Results.{same_type_is}

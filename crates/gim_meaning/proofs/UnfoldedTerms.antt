@@ -37,7 +37,7 @@ use Rattle.gim_run.specs.Slots.{stmt_holds}
 use Rattle.gim_ast.proofs.ReadableLemmas.{support_is_readable}
 use Rattle.gim_changes.specs.Substitution.{put_in_all, with_rhs, with_condition}
 use Rattle.gim_changes.specs.Insertion.{with_stmt}
-use Rattle.gim_changes.specs.Validity.{ComesBefore, OperandComesBefore}
+use Rattle.gim_changes.specs.Validity.{OperandComesBefore}
 use Rattle.gim_changes.proofs.ComesBefore.{before_is_readable}
 use Rattle.gim_meaning.specs.KeptRuns.{KeepsDefinedRuns}
 use Rattle.gim_meaning.specs.PresentValues.{AreTyped, ArePossible}
