@@ -1,27 +1,27 @@
-mod Agreement
-mod AllowedInsertions
-mod AlongRuns
-mod BlockOfPlace
-mod Copies
-mod InsertionRuns
-mod KeptInARow
-mod ListSearch
-mod Lockstep
-mod NewRightSides
-mod NewRows
-mod OnePlace
-mod OperandsStand
-mod PhisOfOneOperand
-mod PossibleWords
-mod Reached
-mod ReadableValues
-mod RemovalRuns
-mod RightSides
-mod RunsAndPoints
-mod SubstitutionRuns
-mod SumsAndDifferences
-mod TermsAfterInsertion
-mod TrimmingRuns
-mod TypedWords
-mod UnchangedItems
-mod UnfoldedTerms
+pub mod Agreement
+pub mod AllowedInsertions
+pub mod AlongRuns
+pub mod BlockOfPlace
+pub mod Copies
+pub mod InsertionRuns
+pub mod KeptInARow
+pub mod ListSearch
+pub mod Lockstep
+pub mod NewRightSides
+pub mod NewRows
+pub mod OnePlace
+pub mod OperandsStand
+pub mod PhisOfOneOperand
+pub mod PossibleWords
+pub mod Reached
+pub mod ReadableValues
+pub mod RemovalRuns
+pub mod RightSides
+pub mod RunsAndPoints
+pub mod SubstitutionRuns
+pub mod SumsAndDifferences
+pub mod TermsAfterInsertion
+pub mod TrimmingRuns
+pub mod TypedWords
+pub mod UnchangedItems
+pub mod UnfoldedTerms

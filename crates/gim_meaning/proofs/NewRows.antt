@@ -36,7 +36,8 @@ module _ (f : Function) (new : ℕ) (none : row_of f new ≡ None) where
       AllStand (IsOther new) operands
   holding_stand [] h = tt
   holding_stand (Name y t ∷ operands) h =
-      let parts = and_parts (operand_holds f (Name y t)) (list_all (operand_holds f) operands) h in (
+      let here = operand_holds f (Name y t) in
+      let parts = and_parts here (list_all (operand_holds f) operands) h in (
         has_row_other (λ (row : NameRow). same_type row.ty t) y parts.0,
         holding_stand operands
             parts.1,

@@ -84,7 +84,8 @@ only_phi [] phi rest h =
     )
 only_phi (first ∷ front) phi rest h =
     let parts = and_parts _ _ h in
-    let none = not-true (list_any (eqb first.name) (map phi_name (front ++ phi ∷ rest))) parts.0 in (
+    let there = map phi_name (front ++ phi ∷ rest) in
+    let none = not-true (list_any (eqb first.name) there) parts.0 in (
       λ same. absurd (both_ways _ none
           (subst (λ z. Has z (map phi_name (front ++ phi ∷ rest))) (sym same)
           (has_phi front phi rest))),

@@ -83,7 +83,7 @@ front_distinct (x ∷ xs) ys h =
 -- ---- the statement of a name
 
 -- the statement assigns the name
-abbrev assigns : ℕ → Stmt → Bool
+abbrev pub assigns : ℕ → Stmt → Bool
 assigns y stmt = eqb stmt.name y
 
 no_stmt : (y : ℕ) (stmts : List Stmt) → HasNot y (map stmt_name stmts) →
@@ -121,7 +121,7 @@ only_stmt (other ∷ front) stmt rest h =
         (sym (eqb-true other.name stmt.name is)) (there front)))
     by false is none found = found
 
-abbrev stmts_in : Block → List Stmt
+abbrev pub stmts_in : Block → List Stmt
 stmts_in block = block.stmts
 
 no_stmt_in : (y : ℕ) (block : Block) → HasNot y (assigned_in block) →
@@ -194,7 +194,7 @@ sought_in_block p y (c ∷ blocks) block is distinct h =
 
 -- ---- well-formed functions
 
-abbrev rhs_of_found : Option Stmt → Option Rhs
+abbrev pub rhs_of_found : Option Stmt → Option Rhs
 rhs_of_found found = option_map (λ (stmt : Stmt). stmt.rhs) found
 
 -- each name is assigned once

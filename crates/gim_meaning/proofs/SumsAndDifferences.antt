@@ -116,25 +116,24 @@ record AreOfType (t : Ty) (a b : Operand) : Type 0 where
   first : type_of a ≡ t
   second : type_of b ≡ t
 
-plus_typed : (t : Ty) (a b : Operand) → well_typed_operation Plus t
-    (type_of a ∷ type_of b ∷ []) ≡ true → AreOfType t a b
-unfolding well_typed_operation
-plus_typed t a b h = let parts = and_parts (same_type (type_of a) t) (same_type (type_of b) t) h in
+both_typed : (t : Ty) (a b : Operand) →
+    (same_type (type_of a) t && same_type (type_of b) t) ≡ true → AreOfType t a b
+both_typed t a b h =
+    let parts = and_parts (same_type (type_of a) t) (same_type (type_of b) t) h in
     record {
       first = same_type_is (type_of a) t parts.0;
-      second =
-          same_type_is (type_of b) t parts.1;
+      second = same_type_is (type_of b) t parts.1;
     }
 
-minus_typed : (t : Ty) (a b : Operand) → well_typed_operation Minus t
-    (type_of a ∷ type_of b ∷ []) ≡ true → AreOfType t a b
+plus_typed : (t : Ty) (a b : Operand) →
+    well_typed_operation Plus t (type_of a ∷ type_of b ∷ []) ≡ true → AreOfType t a b
 unfolding well_typed_operation
-minus_typed t a b h = let parts = and_parts (same_type (type_of a) t) (same_type (type_of b) t) h in
-    record {
-      first = same_type_is (type_of a) t parts.0;
-      second =
-          same_type_is (type_of b) t parts.1;
-    }
+plus_typed t a b h = both_typed t a b h
+
+minus_typed : (t : Ty) (a b : Operand) →
+    well_typed_operation Minus t (type_of a ∷ type_of b ∷ []) ≡ true → AreOfType t a b
+unfolding well_typed_operation
+minus_typed t a b h = both_typed t a b h
 
 of_support : (f : Function) (x y : ℕ) (t : Ty) (a b : Operand) →
     right_of f x ≡ Some (Op Plus (a ∷ b ∷ [])) →

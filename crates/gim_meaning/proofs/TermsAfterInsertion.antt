@@ -2,7 +2,6 @@
 use Rattle.std.proofs.Common.{◌≡◌, ◌≢◌, ℕ, zero, suc, Bool, true, false, cond, eqb, Option, Some}
 use Rattle.std.proofs.Common.{None, List, [], ◌∷◌, ◌++◌, take, drop, insert, slice_get, refl, sym}
 use Rattle.std.proofs.Common.{ap, subst, ◌∙◌, arith, take-append-drop}
-use Rattle.std.specs.Prelude.{option_map}
 use Rattle.std.specs.Option.{option_map_or}
 use Rattle.std.specs.List.{list_any, list_all, flat_map}
 use Rattle.std.proofs.lemmas.Bool.{and_parts, eqb-true, eq-eqb}
@@ -25,7 +24,7 @@ use Rattle.gim_ast.specs.Functions.{assigned, assigned_in}
 use Rattle.gim_ast.specs.Functions.{row_of, stmts_of}
 use Rattle.gim_ast.specs.WellFormed.{IsWellFormed, operand_holds, stmt_fits, rhs_fits, is_assigned}
 use Rattle.gim_ast.specs.Runs.{name_type}
-use Rattle.gim_meaning.proofs.RightSides.{any_turned, no_stmt_among}
+use Rattle.gim_meaning.proofs.RightSides.{any_turned, no_stmt_among, stmts_in, assigns, rhs_of_found}
 use Rattle.gim_run.specs.Slots.{stmt_holds}
 use Rattle.gim_run.specs.Blocks.{block_holds}
 use Rattle.gim_run.proofs.HoldLemmas.{blocks_hold}
@@ -39,15 +38,6 @@ use Rattle.gim_meaning.proofs.ListSearch.{found_passes, first_of_front, first_be
 use Rattle.gim_meaning.proofs.NewRows.{has_row_other, row_other, typed_other, typed_new}
 
 -- ---- the statement of a name
-
-abbrev stmts_in : Block → List Stmt
-stmts_in block = block.stmts
-
-abbrev assigns : ℕ → Stmt → Bool
-assigns y stmt = eqb stmt.name y
-
-abbrev rhs_of_found : Option Stmt → Option Rhs
-rhs_of_found found = option_map (λ (stmt : Stmt). stmt.rhs) found
 
 stmts_are_right : (f : Function) (blocks : List Block) → list_all (block_holds f) blocks ≡ true →
     list_all (stmt_holds f) (flat_map stmts_in blocks) ≡ true
@@ -139,6 +129,14 @@ module _ (p : Stmt → Bool) where
       by (Some stmt) found = first_of_front p front rest stmt (fronts ∙ found)
           ∙ sym (first_of_front p other after stmt found)
 
+  none_in_front : (front rest : List Stmt) → first_where p (front ++ rest) ≡ None →
+      first_where p front ≡ None
+  none_in_front front rest none = by (first_where p front) refl
+    where
+      by : (found : Option Stmt) → first_where p front ≡ found → found ≡ None
+      by None is = refl
+      by (Some stmt) is = absurd (none-some stmt (sym none ∙ first_of_front p front rest stmt is))
+
   module _ (new : Stmt) (before : ℕ) where
     unseen_in_block : p new ≡ false → (stmts : List Stmt) →
         first_where p (insert stmts before new) ≡ first_where p stmts
@@ -163,16 +161,11 @@ module _ (p : Stmt → Bool) where
     -- what none passed before finds the new one
     found_in_block : p new ≡ true → (stmts : List Stmt) → first_where p stmts ≡ None →
         first_where p (insert stmts before new) ≡ Some new
-    found_in_block passes stmts none = first_behind p (take before stmts) (new ∷ drop before stmts)
-        (in_front (first_where p (take before stmts)) refl)
+    found_in_block passes stmts none =
+        let whole = ap (first_where p) (take-append-drop before stmts) ∙ none in
+        first_behind p (take before stmts) (new ∷ drop before stmts)
+        (none_in_front (take before stmts) (drop before stmts) whole)
         ∙ ap (λ b. cond b (Some new) (first_where p (drop before stmts))) passes
-      where
-        in_front : (found : Option Stmt) → first_where p (take before stmts) ≡ found → found ≡ None
-        in_front None is = refl
-        in_front (Some stmt) is =
-            absurd (none-some stmt (sym none
-            ∙ ap (first_where p) (sym (take-append-drop before stmts))
-            ∙ first_of_front p (take before stmts) (drop before stmts) stmt is))
 
     found_in_blocks : p new ≡ true → (place : ℕ) (home : Block) (blocks : List Block) →
         slice_get blocks place ≡ Some home → first_where p (flat_map stmts_in blocks) ≡ None →
@@ -181,25 +174,14 @@ module _ (p : Stmt → Bool) where
     found_in_blocks passes place home [] at none = absurd (none-some home at)
     found_in_blocks passes zero home (block ∷ blocks) at none =
         first_of_front p (insert block.stmts before new) (flat_map stmts_in blocks) new
-        (found_in_block passes block.stmts (in_first (first_where p block.stmts) refl))
-      where
-        in_first : (found : Option Stmt) → first_where p block.stmts ≡ found → found ≡ None
-        in_first None is = refl
-        in_first (Some stmt) is = absurd
-            (none-some stmt (sym none ∙ first_of_front p block.stmts
-            (flat_map stmts_in blocks) stmt is))
+        (found_in_block passes block.stmts
+        (none_in_front block.stmts (flat_map stmts_in blocks) none))
     found_in_blocks passes (suc place) home (block ∷ blocks) at none =
-        let first : first_where p block.stmts ≡ None = in_first (first_where p block.stmts) refl in
-        first_behind p block.stmts (flat_map stmts_in
-        (changed_at place (insert_in_block before new) blocks)) first
-        ∙ found_in_blocks passes place home blocks at
-        (sym (first_behind p block.stmts (flat_map stmts_in blocks) first) ∙ none)
-      where
-        in_first : (found : Option Stmt) → first_where p block.stmts ≡ found → found ≡ None
-        in_first None is = refl
-        in_first (Some stmt) is = absurd
-            (none-some stmt (sym none ∙ first_of_front p block.stmts
-            (flat_map stmts_in blocks) stmt is))
+        let changed = changed_at place (insert_in_block before new) blocks in
+        let first = none_in_front block.stmts (flat_map stmts_in blocks) none in
+        let rest = sym (first_behind p block.stmts (flat_map stmts_in blocks) first) ∙ none in
+        first_behind p block.stmts (flat_map stmts_in changed) first
+        ∙ found_in_blocks passes place home blocks at rest
 
 -- ---- terms
 

@@ -172,17 +172,22 @@ phi_args_fit f phi h = by (row_of f phi.name) h
     by None k = absurd (both_ways false refl k)
     by (Some row) k = k
 
+-- a name that holds as an operand has the type that it has there
+pub type_that_holds : (f : Function) (x : ℕ) (t : Ty) → operand_holds f (Name x t) ≡ true →
+    name_type f x ≡ t
+unfolding name_type
+type_that_holds f x t h = by (row_of f x) h
+  where
+    by : (found : Option NameRow) →
+        option_map_or (λ (row : NameRow). same_type row.ty t) found false ≡ true →
+        option_map_or (λ (row : NameRow). row.ty) found bool_type ≡ t
+    by None k = absurd (both_ways false refl k)
+    by (Some row) k = same_type_is row.ty t k
+
 module _ (f : Function) (e : Env) (typed : AreTyped f e) where
   operand_typed : (a : Operand) → operand_holds f a ≡ true →
       IsTypedWord (type_of a) (word_of_operand e a)
-  unfolding name_type
-  operand_typed (Name x t) h = ((typed x).0 ∙ by (row_of f x) h, (typed x).1)
-    where
-      by : (found : Option NameRow) → option_map_or
-          (λ (row : NameRow). same_type row.ty t) found false ≡ true →
-          option_map_or (λ (row : NameRow). row.ty) found bool_type ≡ t
-      by None k = absurd (both_ways false refl k)
-      by (Some row) k = same_type_is row.ty t k
+  operand_typed (Name x t) h = ((typed x).0 ∙ type_that_holds f x t h, (typed x).1)
   operand_typed (Const w) h = (refl, constant_is_word w h)
 
   operands_typed : (operands : List Operand) → list_all (operand_holds f) operands ≡ true →

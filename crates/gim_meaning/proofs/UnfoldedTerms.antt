@@ -22,11 +22,10 @@ use Rattle.gim_ast.specs.declared.function.Function.{Function}
 use Rattle.gim_ast.specs.declared.function.Block.{Block}
 use Rattle.gim_ast.specs.declared.function.Decl.{Decl}
 use Rattle.gim_ast.specs.declared.function.Stmt.{Stmt}
-use Rattle.gim_ast.specs.declared.function.NameRow.{NameRow}
 use Rattle.gim_ast.specs.declared.function.Rhs.{Rhs}
 use Rattle.gim_ast.specs.declared.function.Rhs.TheVariants.{Copy, Op}
 use Rattle.gim_ast.specs.declared.function.End.TheVariants.{If}
-use Rattle.gim_ast.specs.Functions.{right_of, row_of, block_of, stmt_name, operands_of_rhs}
+use Rattle.gim_ast.specs.Functions.{right_of, block_of, stmt_name, operands_of_rhs}
 use Rattle.gim_ast.specs.Functions.{operands_of_stmt, operands_of_end}
 use Rattle.gim_ast.specs.Readable.{names_among, operand, IsReadable, Use, uses_in_stmts}
 use Rattle.gim_ast.specs.Readable.{uses_in_block, uses_in, IsReadableUse, IsValid}
@@ -52,7 +51,7 @@ use Rattle.gim_meaning.proofs.PossibleWords.{always_read_alike_keeps_runs, alway
 use Rattle.gim_meaning.proofs.PossibleWords.{always_decided_keeps_runs, always_defined_keeps_runs}
 use Rattle.gim_meaning.proofs.ReadableValues.{reads_of}
 use Rattle.gim_meaning.proofs.SubstitutionRuns.{each_of, names_at, uses_of_stmt, uses_of_block}
-use Rattle.gim_meaning.proofs.TypedWords.{zero_is_word, block_is_right}
+use Rattle.gim_meaning.proofs.TypedWords.{type_that_holds, zero_is_word, block_is_right}
 
 -- ---- words
 
@@ -70,18 +69,10 @@ module _ (f : Function) (env : Env) (typed : AreTyped f env) where
 
   leaf_value : (a : Operand) → operand_holds f a ≡ true →
       term_value (words_in env) (leaf a) ≡ Some (word_of_operand env a)
-  unfolding name_type
   leaf_value (Name x t) h =
-      let same : same_type (env x).ty t ≡ true =
-      subst (λ s. same_type s t ≡ true) (sym ((typed x).0 ∙ by (row_of f x) h))
-      (same_type_with_itself t) in
+      let is = (typed x).0 ∙ type_that_holds f x t h in
+      let same = subst (λ s. same_type s t ≡ true) (sym is) (same_type_with_itself t) in
       ap (λ b. Some (cond b (env x) (zero_of t))) same
-    where
-      by : (found : Option NameRow) → option_map_or
-          (λ (row : NameRow). same_type row.ty t) found false ≡ true →
-          option_map_or (λ (row : NameRow). row.ty) found bool_type ≡ t
-      by None k = absurd (both_ways false refl k)
-      by (Some row) k = same_type_is row.ty t k
   leaf_value (Const w) h = refl
 
 -- ---- terms at a point
