@@ -25,8 +25,9 @@ use Rattle.gim_ast.specs.WellFormed.{IsWellFormed}
 use Rattle.gim_changes.specs.Insertion.{with_stmt, MayBeInserted}
 use Rattle.gim_changes.specs.Validity.{IsReadableOperand}
 use Rattle.gim_meaning.specs.KeptRuns.{KeepsDefinedRuns}
-use Rattle.gim_meaning.specs.SameReading.{IsNewStmt, HasValueThere, AlwaysHasValueThere}
+use Rattle.gim_meaning.specs.SameReading.{HasValueThere, AlwaysHasValueThere}
 use Rattle.gim_meaning.specs.Unfolding.{UnfoldsRight, MayRead, IsDefinedWith}
+use Rattle.gim_meaning.proofs.NewRows.{IsNewStmt}
 use Rattle.gim_meaning.proofs.InsertionRuns.{insertion_keeps_runs}
 use Rattle.gim_meaning.proofs.ListSearch.{found_passes, all_of_found}
 use Rattle.gim_meaning.proofs.PossibleWords.{always_defined_keeps_runs}

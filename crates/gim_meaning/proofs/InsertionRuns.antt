@@ -24,11 +24,12 @@ use Rattle.gim_run.proofs.PhiLemmas.{block_phis}
 use Rattle.gim_changes.specs.Insertion.{insert_in_block, with_stmt}
 use Rattle.gim_meaning.specs.ReachedPoints.{Inside, Reaches, pass, Lies}
 use Rattle.gim_meaning.specs.KeptRuns.{AreArgumentWords, KeepsDefinedRuns}
-use Rattle.gim_meaning.specs.SameReading.{GoesOn, HasValueThere, IsNewStmt}
+use Rattle.gim_meaning.specs.SameReading.{GoesOn, HasValueThere}
 use Rattle.gim_meaning.proofs.Agreement.{AgreeOn, AllStand, same_value, same_lead}
 use Rattle.gim_meaning.proofs.BlockOfPlace.{changed_in, changed_by_number, inserted, block_at}
 use Rattle.gim_meaning.proofs.BlockOfPlace.{blocks_apart}
-use Rattle.gim_meaning.proofs.NewRows.{has_row_other, holding_stand, all_stand_aside, typed_other}
+use Rattle.gim_meaning.proofs.NewRows.{IsNewStmt, has_row_other, holding_stand, all_stand_aside}
+use Rattle.gim_meaning.proofs.NewRows.{typed_other}
 use Rattle.gim_meaning.proofs.NewRows.{typed_new, starts_other}
 use Rattle.gim_meaning.proofs.Lockstep.{PassesAlike, GoesAlike, alike_keeps_runs, passes_stmt}
 use Rattle.gim_meaning.proofs.OperandsStand.{phis_stand, end_stands, TypedAlike, PhiTyped}

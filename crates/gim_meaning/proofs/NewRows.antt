@@ -13,7 +13,7 @@ use Rattle.gim_ast.specs.declared.function.Function.{Function}
 use Rattle.gim_ast.specs.declared.function.Decl.{Decl}
 use Rattle.gim_ast.specs.declared.function.Stmt.{Stmt}
 use Rattle.gim_ast.specs.declared.function.NameRow.{NameRow}
-use Rattle.gim_ast.specs.Functions.{first_where, operands_of, row_of}
+use Rattle.gim_ast.specs.Functions.{first_where, operands_of, row_of, operands_of_stmt}
 use Rattle.gim_ast.specs.WellFormed.{IsWellFormed, operand_holds, block_fits}
 use Rattle.gim_ast.specs.Runs.{start_env, start_word, zero_of, name_type}
 use Rattle.gim_changes.specs.Insertion.{row_for, with_stmt}
@@ -21,6 +21,12 @@ use Rattle.gim_meaning.proofs.Agreement.{AllStand}
 use Rattle.gim_meaning.proofs.ListSearch.{first_of_front, first_behind}
 use Rattle.gim_meaning.proofs.OperandsStand.{TypedAlike}
 use Rattle.gim_meaning.proofs.ReadableValues.{IsOther}
+
+-- a name without a row, whose statement reads names and constants that the function may have, so
+-- none that it makes
+pub record IsNewStmt (f : Function) (stmt : Stmt) : Type 0 where
+  pub new : row_of f stmt.name ≡ None
+  pub reads : list_all (operand_holds f) (operands_of_stmt stmt) ≡ true
 
 -- ---- a name without a row
 

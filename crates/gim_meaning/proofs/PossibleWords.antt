@@ -25,7 +25,8 @@ use Rattle.gim_meaning.specs.PresentValues.{ArePossible}
 use Rattle.gim_meaning.specs.ReachedPoints.{Inside, Reaches, Lies}
 use Rattle.gim_meaning.specs.SameReading.{ReadsAlike, GivesAlike, DecidesAlike, AlwaysReadsAlike}
 use Rattle.gim_meaning.specs.SameReading.{AlwaysGivesAlike, AlwaysDecidesAlike, FollowsFrom}
-use Rattle.gim_meaning.specs.SameReading.{AlwaysHasValueThere, IsNewStmt}
+use Rattle.gim_meaning.specs.SameReading.{AlwaysHasValueThere}
+use Rattle.gim_meaning.proofs.NewRows.{IsNewStmt}
 use Rattle.gim_meaning.proofs.BlockOfPlace.{block_at}
 use Rattle.gim_meaning.proofs.InsertionRuns.{insertion_keeps_runs}
 use Rattle.gim_meaning.proofs.NewRightSides.{right_side_keeps_runs, condition_keeps_runs}

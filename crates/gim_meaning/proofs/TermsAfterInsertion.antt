@@ -24,18 +24,18 @@ use Rattle.gim_ast.specs.Functions.{assigned, assigned_in}
 use Rattle.gim_ast.specs.Functions.{row_of, stmts_of}
 use Rattle.gim_ast.specs.WellFormed.{IsWellFormed, operand_holds, stmt_fits, rhs_fits, is_assigned}
 use Rattle.gim_ast.specs.Runs.{name_type}
-use Rattle.gim_meaning.proofs.RightSides.{any_turned, no_stmt_among, stmts_in, assigns, rhs_of_found}
+use Rattle.gim_meaning.proofs.RightSides.{any_turned, no_stmt_among, stmts_in, assigns}
+use Rattle.gim_meaning.proofs.RightSides.{rhs_of_found}
 use Rattle.gim_run.specs.Slots.{stmt_holds}
 use Rattle.gim_run.specs.Blocks.{block_holds}
 use Rattle.gim_run.proofs.HoldLemmas.{blocks_hold}
 use Rattle.gim_run.proofs.PhiLemmas.{block_stmts}
 use Rattle.gim_run.proofs.SlotLemmas.{stmt_typed, stmt_known}
 use Rattle.gim_changes.specs.Insertion.{changed_at, insert_in_block, with_stmt}
-use Rattle.gim_meaning.specs.SameReading.{IsNewStmt}
 use Rattle.gim_meaning.specs.Unfolding.{Unfolds, itself, copied, computed, EachUnfolds, no_operand}
 use Rattle.gim_meaning.specs.Unfolding.{one_more, UnfoldsRight}
 use Rattle.gim_meaning.proofs.ListSearch.{found_passes, first_of_front, first_behind, all_of_found}
-use Rattle.gim_meaning.proofs.NewRows.{has_row_other, row_other, typed_other, typed_new}
+use Rattle.gim_meaning.proofs.NewRows.{IsNewStmt, has_row_other, row_other, typed_other, typed_new}
 
 -- ---- the statement of a name
 

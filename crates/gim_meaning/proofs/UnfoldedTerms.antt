@@ -42,10 +42,10 @@ use Rattle.gim_meaning.specs.KeptRuns.{KeepsDefinedRuns}
 use Rattle.gim_meaning.specs.PresentValues.{AreTyped, ArePossible}
 use Rattle.gim_meaning.specs.ReachedPoints.{Lies}
 use Rattle.gim_meaning.specs.SameReading.{AlwaysReadsAlike, AlwaysDecidesAlike, AlwaysHasValueThere}
-use Rattle.gim_meaning.specs.SameReading.{IsNewStmt}
 use Rattle.gim_meaning.specs.Unfolding.{Unfolds, itself, copied, computed, EachUnfolds, no_operand}
 use Rattle.gim_meaning.specs.Unfolding.{one_more, UnfoldsRight, MayRead, IsOfSupport, words_in}
 use Rattle.gim_meaning.specs.Unfolding.{AreWordsOfNames, Refines, IsDefinedWith}
+use Rattle.gim_meaning.proofs.NewRows.{IsNewStmt}
 use Rattle.gim_meaning.proofs.ListSearch.{parts_of_found}
 use Rattle.gim_meaning.proofs.PossibleWords.{always_read_alike_keeps_runs, always_given_keeps_runs}
 use Rattle.gim_meaning.proofs.PossibleWords.{always_decided_keeps_runs, always_defined_keeps_runs}

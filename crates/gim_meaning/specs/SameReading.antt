@@ -1,6 +1,5 @@
 -- What has to hold where runs come so that a change keeps them.
-use Rattle.std.specs.Prelude.{◌≡◌, ℕ, ⊤, IsTrue, Some, None, IsSome, List, [], ◌∷◌, map}
-use Rattle.std.specs.List.{list_all}
+use Rattle.std.specs.Prelude.{◌≡◌, ℕ, ⊤, Some, IsSome, List, [], ◌∷◌, map}
 use Rattle.pm_ops.specs.declared.code.Code.{Code}
 use Rattle.pm_wide.specs.Types.{Ty, Word}
 use Rattle.pm_wide.specs.declared.operand.Operand.{Operand}
@@ -9,9 +8,8 @@ use Rattle.gim_ast.specs.declared.function.Block.{Block}
 use Rattle.gim_ast.specs.declared.function.Stmt.{Stmt}
 use Rattle.gim_ast.specs.declared.function.Rhs.{Rhs}
 use Rattle.gim_ast.specs.declared.function.End.TheVariants.{If}
-use Rattle.gim_ast.specs.Functions.{stmt_name, row_of, operands_of_stmt}
+use Rattle.gim_ast.specs.Functions.{stmt_name}
 use Rattle.gim_ast.specs.Readable.{Use, Supports, read_for}
-use Rattle.gim_ast.specs.WellFormed.{operand_holds}
 use Rattle.gim_ast.specs.Runs.{Env, word_of_operand, rhs_value, name_type, holds}
 use Rattle.gim_meaning.specs.KeptRuns.{AreArgumentWords}
 use Rattle.gim_meaning.specs.PresentValues.{AreTyped, HasItsValue, ArePossible}
@@ -86,9 +84,3 @@ abbrev pub AlwaysHasValueThere : Function → Block → List Stmt → Ty → Rhs
 AlwaysHasValueThere f block stmts t rhs = (env : Env) →
     ArePossible f block.number (map stmt_name stmts) env → GoesOn f stmts env →
     IsSome (rhs_value t env rhs)
-
--- a name without a row, whose statement reads names and constants that the function may have, so
--- none that it makes
-pub record IsNewStmt (f : Function) (stmt : Stmt) : Type 0 where
-  pub new : row_of f stmt.name ≡ None
-  pub reads : IsTrue (list_all (operand_holds f) (operands_of_stmt stmt))
