@@ -63,7 +63,7 @@ module _ (flow : List Stretch) (initial : ℕ → Bool) (reads : ℕ → List �
       assigned_since flow initial w z (λ is. initial_alone w z is rest) (support_assigned w z rest) n (x ∷ left) past path (read n x w left past path reads_it)
 
   -- two names can't each be assigned before the other
-  no_circle : (x z : ℕ) → (IsTrue (initial x) → ⊥) → ((n : ℕ) (left past : List ℕ) → Path flow n (x ∷ left) past → IsAssignedAfter initial z past) →
+  pub no_circle : (x z : ℕ) → (IsTrue (initial x) → ⊥) → ((n : ℕ) (left past : List ℕ) → Path flow n (x ∷ left) past → IsAssignedAfter initial z past) →
       (n : ℕ) (left : List ℕ) → ((past : List ℕ) → Path flow n (z ∷ left) past → IsAssignedAfter initial x past) →
       (long : ℕ) (past : List ℕ) → length past < long → Path flow n (z ∷ left) past → ⊥
   no_circle x z plain_x needs n left leads zero past within path = omega arith
@@ -85,7 +85,7 @@ module _ (flow : List Stretch) (initial : ℕ → Bool) (reads : ℕ → List �
       let before : (other : List ℕ) → Path flow n (z ∷ left) other → IsAssignedAfter initial x other =
       λ other earlier. ⊎_elim (λ now. absurd (apart now)) (λ assigned. assigned) (always (z ∷ other) (item n z left other earlier)) in
       inr (
-      λ supports. no_circle x z (λ is. initial_alone x z is supports) (support_assigned x z supports) n left before (suc (length past)) past (omega arith) path,
-      fresh_where_assigned x n (z ∷ left) past path before,
+        λ supports. no_circle x z (λ is. initial_alone x z is supports) (support_assigned x z supports) n left before (suc (length past)) past (omega arith) path,
+        fresh_where_assigned x n (z ∷ left) past path before,
       ))
       (cases_eq z x)

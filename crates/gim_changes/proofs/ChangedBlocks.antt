@@ -73,7 +73,7 @@ no_member : (phis : List Phi) → ((phi : Phi) → IsMember phi phis → ⊥) �
 no_member [] none = refl
 no_member (phi ∷ phis) none = absurd (none phi (inl refl))
 
-none_of_empty : (phis : List Phi) → is_empty phis ≡ true → (phi : Phi) → IsMember phi phis → ⊥
+pub none_of_empty : (phis : List Phi) → is_empty phis ≡ true → (phi : Phi) → IsMember phi phis → ⊥
 none_of_empty [] empty phi one = one
 none_of_empty (first ∷ phis) empty phi one = both_ways false refl empty
 

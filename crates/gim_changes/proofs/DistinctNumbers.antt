@@ -3,7 +3,7 @@ use Rattle.std.proofs.Common.{◌≡◌, ℕ, Bool, true, false, cond, List, [],
 use Rattle.std.specs.List.{list_any}
 use Rattle.std.proofs.lemmas.Bool.{and_parts, and_from, not-true, both_ways, eq-eqb, eqb-true, false_from_ne_true}
 use Rattle.gim_ast.specs.WellFormed.{all_distinct}
-use Rattle.gim_changes.proofs.Members.{IsMember, any_from_member, member_from_any, member_left, member_right, member_middle, member_filtered}
+use Rattle.gim_changes.proofs.Members.{first_or, rest_of, IsMember, any_from_member, member_from_any, member_left, member_right, member_middle, member_filtered}
 
 -- no number stands twice
 abbrev pub AreDistinct : List ℕ → Type 0
@@ -39,14 +39,6 @@ not_in_both x (z ∷ xs) ys h left right = ⊎_elim
     (λ here. not_later z (xs ++ ys) h (subst (λ w. IsMember w (xs ++ ys)) (sym here) (member_right x xs ys right)))
     (λ later. not_in_both x xs ys ((and_parts _ _ h).1) later right)
     left
-
-abbrev first_or : ℕ → List ℕ → ℕ
-first_or d [] = d
-first_or d (x ∷ xs) = x
-
-abbrev rest_of : List ℕ → List ℕ
-rest_of [] = []
-rest_of (x ∷ xs) = xs
 
 -- what follows a number is one list
 pub one_rest : (x : ℕ) (xs ys us vs : List ℕ) → AreDistinct (xs ++ x ∷ ys) → xs ++ x ∷ ys ≡ us ++ x ∷ vs → ys ≡ vs

@@ -9,7 +9,6 @@ use Rattle.gim_ast.specs.WellFormed.{same_text, all_distinct, rises, initial_bas
 use Rattle.gim_changes.proofs.Members.{IsMember, all_members, all_from_members, member_mapped, mapped_member, member_filtered}
 use Rattle.gim_changes.proofs.TrimmedFirst.{any_of_parts}
 
-
 pub fewer_filtered : {X : Type 0} (p : X → Bool) (xs : List X) → length (filter p xs) ≤ length xs
 fewer_filtered p [] = omega arith
 fewer_filtered p (x ∷ xs) = by (p x) (fewer_filtered p xs)

@@ -26,7 +26,7 @@ use Rattle.gim_changes.specs.Validity.{IsReadableOperand}
 use Rattle.gim_changes.proofs.Members.{IsMember, all_members, all_from_members, any_from_member, member_from_any, each_member, member_right, member_cases, member_mapped, mapped_member, member_filtered, filtered_member, member_of_parts, part_member, slice_member, member_middle}
 use Rattle.gim_changes.proofs.AnonymousNames.{same_text_is, same_text_itself, anonymous_is_anonymous, anonymous_is_identifier, anonymous_names_differ, distinct_with}
 use Rattle.gim_changes.proofs.NamesUsed.{operand_of_phis, operand_of_stmts, operand_of_end, operand_of_block, used_stands}
-use Rattle.gim_changes.proofs.PathsWithout.{other}
+use Rattle.gim_changes.proofs.Unused.{other}
 use Rattle.gim_changes.proofs.RulesOfNames.{ordered, rows_hold, among_member, member_among}
 use Rattle.gim_changes.proofs.ReadyToTrim.{MayStay, IsReadyToTrim, has_row}
 use Rattle.gim_changes.proofs.ChangedBlocks.{IsLikeBlock, AreLikeBlocks, blocks_kept, row_may_stay, BlockHolds, block_holds, operands_from, used_in_block}
@@ -67,7 +67,7 @@ rises_with (x ∷ xs) v h less =
     (member_cases y xs (v ∷ []) one)))
     (rises_with xs v parts.1 (λ y one. less y (inr one)))
 
-same_type_itself : (t : Ty) → same_type t t ≡ true
+pub same_type_itself : (t : Ty) → same_type t t ≡ true
 same_type_itself t = and_from (eqb t.width t.width) _ (eq-eqb t.width t.width refl) (by t.unsigned)
   where
     by : (u : Bool) → cond u u (not u) ≡ true

@@ -16,9 +16,10 @@ use Rattle.gim_ast.specs.Readable.{names_among, read_for, is_initial, Supports, 
 use Rattle.gim_changes.specs.Insertion.{insert_in_block, with_stmt, MayBeInserted}
 use Rattle.gim_changes.specs.Trimming.{stands_in}
 use Rattle.gim_changes.specs.Validity.{IsAssignedAfter, ComesBefore, OperandComesBefore}
-use Rattle.gim_changes.proofs.Members.{IsMember, each_member}
+use Rattle.gim_changes.proofs.Members.{first_or, rest_of, IsMember, each_member}
 use Rattle.gim_changes.proofs.Points.{path_point, entry_found}
-use Rattle.gim_changes.proofs.PathsWithout.{other, front_is}
+use Rattle.gim_changes.proofs.Unused.{other}
+use Rattle.gim_changes.proofs.PathsWithout.{front_is}
 use Rattle.gim_changes.proofs.NamesUsed.{named, assigned_stands}
 use Rattle.gim_changes.proofs.RulesOfNames.{ordered, among_member, reader, stmt_assigns, point_of_block}
 use Rattle.gim_changes.proofs.ComesBefore.{readable_where_assigned, readable_at_the_point, support_comes_before}
@@ -28,14 +29,6 @@ use Rattle.gim_changes.proofs.GrownRules.{new_assigned}
 use Rattle.gim_changes.proofs.ValidInsertion.{grown_valid, grown_is, read_new, new_apart, stands_still, readable_still}
 
 -- ---- what a path passed last in a block
-
-abbrev first_or : ℕ → List ℕ → ℕ
-first_or d [] = d
-first_or d (z ∷ zs) = z
-
-abbrev rest_of : List ℕ → List ℕ
-rest_of [] = []
-rest_of (z ∷ zs) = zs
 
 same_last : (z v : ℕ) (us ws : List ℕ) → us ++ z ∷ [] ≡ ws ++ v ∷ [] → z ≡ v
 same_last z v [] [] e = ap (first_or z) e

@@ -116,17 +116,21 @@ module _ (before : ℕ) (stmt : Stmt) where
       let phis = map phi_name b.phis in
       let front = map stmt_name (take before b.stmts) in
       let back = map stmt_name (drop before b.stmts) in
-      let after = flat_map assigned_in bs in
-      (phis ++ front, back ++ after,
-      ap (λ l. (phis ++ l) ++ after) (ap (map stmt_name) (sym (take-append-drop before b.stmts)) ∙ map-append stmt_name (take before b.stmts) (drop before b.stmts))
-      ∙ (ap (λ l. l ++ after) (sym (append_assoc phis front back)) ∙ append_assoc (phis ++ front) back after),
-      ap (λ l. (phis ++ l) ++ after) (map-append stmt_name (take before b.stmts) (stmt ∷ drop before b.stmts))
-      ∙ (ap (λ l. l ++ after) (sym (append_assoc phis front (stmt.name ∷ back))) ∙ append_assoc (phis ++ front) (stmt.name ∷ back) after))
+      let after = flat_map assigned_in bs in (
+        phis ++ front,
+        back ++ after,
+        ap (λ l. (phis ++ l) ++ after) (ap (map stmt_name) (sym (take-append-drop before b.stmts)) ∙ map-append stmt_name (take before b.stmts) (drop before b.stmts))
+            ∙ (ap (λ l. l ++ after) (sym (append_assoc phis front back)) ∙ append_assoc (phis ++ front) back after),
+        ap (λ l. (phis ++ l) ++ after) (map-append stmt_name (take before b.stmts) (stmt ∷ drop before b.stmts))
+            ∙ (ap (λ l. l ++ after) (sym (append_assoc phis front (stmt.name ∷ back))) ∙ append_assoc (phis ++ front) (stmt.name ∷ back) after),
+      )
   assigned_splits (suc place) (b ∷ bs) home is =
-      let found = assigned_splits place bs home is in
-      (assigned_in b ++ found.0, found.1,
-      ap (λ l. assigned_in b ++ l) found.2 ∙ sym (append_assoc (assigned_in b) found.0 found.1),
-      ap (λ l. assigned_in b ++ l) found.3 ∙ sym (append_assoc (assigned_in b) found.0 (stmt.name ∷ found.1)))
+      let found = assigned_splits place bs home is in (
+        assigned_in b ++ found.0,
+        found.1,
+        ap (λ l. assigned_in b ++ l) found.2 ∙ sym (append_assoc (assigned_in b) found.0 found.1),
+        ap (λ l. assigned_in b ++ l) found.3 ∙ sym (append_assoc (assigned_in b) found.0 (stmt.name ∷ found.1)),
+      )
 
 -- ---- names of a well-formed function have rows
 

@@ -3,6 +3,7 @@ pub mod AnonymousNames
 pub mod AssignedBefore
 pub mod ChangedBlocks
 pub mod ComesBefore
+pub mod Copies
 pub mod DistinctNumbers
 pub mod FilteredLists
 pub mod FlowKept
@@ -17,6 +18,7 @@ pub mod Members
 pub mod NamesRead
 pub mod NamesUsed
 pub mod PathsWithout
+pub mod PhiArguments
 pub mod PlaceCounts
 pub mod PlaceItems
 pub mod Points

@@ -20,7 +20,7 @@ use Rattle.gim_ast.specs.Readable.{names_among, read_for, is_initial, Supports, 
 use Rattle.gim_changes.specs.Trimming.{stands_in, trimmed}
 use Rattle.gim_changes.specs.Validity.{IsAssignedAfter}
 use Rattle.gim_changes.proofs.FlowKept.{unseen}
-use Rattle.gim_changes.proofs.Members.{IsMember, all_from_members, member_cases, member_mapped, member_of_parts, member_splits}
+use Rattle.gim_changes.proofs.Members.{first_or, rest_of, IsMember, all_from_members, member_cases, member_mapped, member_of_parts, member_splits}
 use Rattle.gim_changes.proofs.DistinctNumbers.{AreDistinct}
 use Rattle.gim_changes.proofs.NamesRead.{IsReadIn, by_phi, by_stmt, by_end}
 use Rattle.gim_changes.proofs.NamesUsed.{named}
@@ -30,22 +30,14 @@ use Rattle.gim_changes.proofs.ReadyToTrim.{trimmed_valid, assigned_from_more}
 use Rattle.gim_changes.proofs.ChangedBlocks.{IsLikeBlock, mapped_like, with_blocks, ready_with_blocks, BlockHolds, holds_with_blocks, operands_from, used_in_block}
 use Rattle.gim_changes.proofs.GoodOperands.{IsGood}
 
-abbrev first_stmt : Stmt → List Stmt → Stmt
-first_stmt d [] = d
-first_stmt d (s ∷ stmts) = s
-
-abbrev rest_of_stmts : List Stmt → List Stmt
-rest_of_stmts [] = []
-rest_of_stmts (s ∷ stmts) = stmts
-
 -- the place of a changed statement is that of the statement
 pub changed_place : (change : Stmt → Stmt) (stmts front : List Stmt) (stmt : Stmt) (rest : List Stmt) → map change stmts ≡ front ++ stmt ∷ rest →
     (before : List Stmt) × (old : Stmt) × (after : List Stmt) × (stmts ≡ before ++ old ∷ after) × (change old ≡ stmt) × (map change after ≡ rest)
 changed_place change [] front stmt rest e =
     let long : 0 ≡ length front + suc (length rest) = ap length e ∙ length-append front (stmt ∷ rest) in absurd (omega (arith, long))
-changed_place change (s ∷ stmts) [] stmt rest e = ([], s, stmts, refl, ap (first_stmt stmt) e, ap rest_of_stmts e)
+changed_place change (s ∷ stmts) [] stmt rest e = ([], s, stmts, refl, ap (first_or stmt) e, ap rest_of e)
 changed_place change (s ∷ stmts) (u ∷ front) stmt rest e =
-    let found = changed_place change stmts front stmt rest (ap rest_of_stmts e) in
+    let found = changed_place change stmts front stmt rest (ap rest_of e) in
     (s ∷ found.0, found.1, found.2, ap (λ l. s ∷ l) found.3, found.4, found.5)
 
 first_of_mapped : (change : Stmt → Stmt) (p : Stmt → Bool) → ((s : Stmt) → p (change s) ≡ p s) → (stmts : List Stmt) → first_where p (map change stmts) ≡ option_map change (first_where p stmts)
@@ -78,7 +70,6 @@ module _ (change_phi : Phi → Phi) (change_stmt : Stmt → Stmt) (end_of : Bloc
   mapped_in f = with_blocks (map changed f.blocks) f
 
   -- ---- what paths see
-
 
   same_stretch : (b : Block) → stretch_of (changed b) ≡ stretch_of b
   same_stretch b =

@@ -9,6 +9,14 @@ abbrev pub IsMember : {X : Type 0} → X → List X → Type 0
 IsMember x [] = ⊥
 IsMember x (y ∷ ys) = (y ≡ x) ⊎ IsMember x ys
 
+abbrev pub first_or : {X : Type 0} → X → List X → X
+first_or d [] = d
+first_or d (x ∷ xs) = x
+
+abbrev pub rest_of : {X : Type 0} → List X → List X
+rest_of [] = []
+rest_of (x ∷ xs) = xs
+
 module _ {X : Type 0} where
   pub all_members : (p : X → Bool) (xs : List X) → list_all p xs ≡ true → (x : X) → IsMember x xs → p x ≡ true
   all_members p [] all x one = absurd one

@@ -48,13 +48,17 @@ operand_of_block f b a one mine = part_member operands_of_block a b f.blocks one
 read_operand : (b : Block) (y n : ℕ) (left : List ℕ) → IsReadIn b y n left → (t : Ty) × IsMember (Name y t) (operands_of_block b)
 read_operand b y n left (by_phi phi a one arg name none) =
     let found = named y (a ∷ []) name in
-    let same : a ≡ Name y found.0 = ⊎_elim (λ here. here) (λ later. absurd later) found.1 in
-    (found.0, operand_of_phis b (Name y found.0) (part_member operands_of_phi (Name y found.0) phi b.phis one
-    (subst (λ c. IsMember c (operands_of_phi phi)) same (mapped_member (λ (more : ℕ × Operand). more.1) (n, a) phi.args arg))))
+    let same : a ≡ Name y found.0 = ⊎_elim (λ here. here) (λ later. absurd later) found.1 in (
+      found.0,
+      operand_of_phis b (Name y found.0) (part_member operands_of_phi (Name y found.0) phi b.phis one
+          (subst (λ c. IsMember c (operands_of_phi phi)) same (mapped_member (λ (more : ℕ × Operand). more.1) (n, a) phi.args arg))),
+    )
 read_operand b y n left (by_stmt front stmt rest is name at what) =
-    let found = named y (operands_of_stmt stmt) name in
-    (found.0, operand_of_stmts b (Name y found.0) (part_member operands_of_stmt (Name y found.0) stmt b.stmts
-    (subst (IsMember stmt) (sym is) (member_middle stmt front rest)) found.1))
+    let found = named y (operands_of_stmt stmt) name in (
+      found.0,
+      operand_of_stmts b (Name y found.0) (part_member operands_of_stmt (Name y found.0) stmt b.stmts
+          (subst (IsMember stmt) (sym is) (member_middle stmt front rest)) found.1),
+    )
 read_operand b y n left (by_end name at what) =
     let found = named y (operands_of_end b.end) name in
     (found.0, operand_of_end b (Name y found.0) found.1)

@@ -7,10 +7,9 @@ use Rattle.std.proofs.lemmas.List.Elements.{filter-append}
 use Rattle.gim_ast.specs.WellFormed.{is_among}
 use Rattle.gim_ast.specs.Paths.{Stretch, entry_of, stretch_at, Path, enter, item, jump}
 use Rattle.gim_changes.specs.Validity.{IsAssignedAfter}
+use Rattle.gim_changes.proofs.Members.{first_or, rest_of}
+use Rattle.gim_changes.proofs.Unused.{other}
 use Rattle.gim_changes.proofs.Points.{IsPoint, number_found, entry_found}
-
-abbrev pub other : ℕ → ℕ → Bool
-other x y = not (eqb y x)
 
 -- a block without the assignments of x
 abbrev pub less : ℕ → Stretch → Stretch
@@ -36,15 +35,6 @@ filtered_onto p (z ∷ front) past = filtered_onto p front (z ∷ past) ∙ by (
     by : (b : Bool) → onto (filter p front) (cond b (z ∷ filter p past) (filter p past)) ≡ onto (cond b (z ∷ filter p front) (filter p front)) (filter p past)
     by true = refl
     by false = refl
-
-
-abbrev first_or : ℕ → List ℕ → ℕ
-first_or d [] = d
-first_or d (z ∷ zs) = z
-
-abbrev rest_of : List ℕ → List ℕ
-rest_of [] = []
-rest_of (z ∷ zs) = zs
 
 no_longer : (v : ℕ) (us vs : List ℕ) → vs ≡ v ∷ (us ++ vs) → ⊥
 no_longer v us vs e =
@@ -185,10 +175,11 @@ module _ (x : ℕ) where
       let same : low.home ≡ point.home = same_Some low.home point.home (sym low.at ∙ point.at) in
       let assigns : low.home.assigns ≡ point.front ++ left = ap (λ (s : Stretch). s.assigns) same ∙ point.is in
       let fronts : low.front ≡ filter (other x) point.front =
-      front_is low.front (filter (other x) point.front) (filter (other x) left) (sym low.is ∙ (ap (filter (other x)) assigns ∙ filter-append (other x) point.front left)) in
-      (onto point.front low.before,
-      walk flow n point.front left low.before (subst (λ l. Path flow n l low.before) assigns low.path),
-      filtered_onto (other x) point.front low.before ∙ (ap (λ l. onto l (filter (other x) low.before)) (sym fronts) ∙ sym low.past_is))
+      front_is low.front (filter (other x) point.front) (filter (other x) left) (sym low.is ∙ (ap (filter (other x)) assigns ∙ filter-append (other x) point.front left)) in (
+        onto point.front low.before,
+        walk flow n point.front left low.before (subst (λ l. Path flow n l low.before) assigns low.path),
+        filtered_onto (other x) point.front low.before ∙ (ap (λ l. onto l (filter (other x) low.before)) (sym fronts) ∙ sym low.past_is),
+      )
 
   pub lifted_to_end : (flow : List Stretch) (n : ℕ) (past : List ℕ) → Path (map (less x) flow) n [] past → (whole : List ℕ) × Path flow n [] whole × (filter (other x) whole ≡ past)
   lifted_to_end flow n past path =

@@ -72,9 +72,10 @@ module _ (x : ℕ) (left rest : List ℕ) where
       (λ here. ⊎_elim
       (λ here_too.
       let mine : s.assigns ≡ front ++ x ∷ left = ap (λ (t : Stretch). t.assigns) here.1 ∙ is in
-      let mine_too : s.assigns ≡ before ++ x ∷ rest = ap (λ (t : Stretch). t.assigns) here_too.1 ∙ is_other in
-      (sym here.0 ∙ here_too.0,
-      one_rest x front left before rest (subst AreDistinct mine (distinct_front s.assigns (assigned_on flow) once)) (sym mine ∙ mine_too)))
+      let mine_too : s.assigns ≡ before ++ x ∷ rest = ap (λ (t : Stretch). t.assigns) here_too.1 ∙ is_other in (
+        sym here.0 ∙ here_too.0,
+        one_rest x front left before rest (subst AreDistinct mine (distinct_front s.assigns (assigned_on flow) once)) (sym mine ∙ mine_too),
+      ))
       (λ later. absurd (not_in_both x s.assigns (assigned_on flow) once
       (subst (IsMember x) (sym (ap (λ (t : Stretch). t.assigns) here.1 ∙ is)) (member_middle x front left))
       (assigned_there flow m x other before rest later is_other)))

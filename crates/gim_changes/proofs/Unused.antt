@@ -51,7 +51,7 @@ rows_stay f g row same =
 -- ---- a removal takes an assigned name away
 
 -- every name but this one
-abbrev other : ℕ → ℕ → Bool
+abbrev pub other : ℕ → ℕ → Bool
 other x y = not (y == x)
 
 pub names_of_others : {X : Type 0} (name : X → ℕ) (x : ℕ) (xs : List X) → map name (filter (λ a. other x (name a)) xs) ≡ filter (other x) (map name xs)

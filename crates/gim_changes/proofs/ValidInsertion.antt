@@ -19,8 +19,9 @@ use Rattle.gim_changes.specs.Insertion.{insert_in_block, row_for, with_stmt, May
 use Rattle.gim_changes.specs.Removal.{stmt_stays, without, without_in_block}
 use Rattle.gim_changes.specs.Trimming.{stands_in, is_empty_text, row_stays}
 use Rattle.gim_changes.specs.Validity.{IsAssignedAfter}
-use Rattle.gim_changes.proofs.Members.{IsMember, all_members, all_from_members, slice_member, member_right, member_cases, mapped_member, member_middle, part_member}
-use Rattle.gim_changes.proofs.PathsWithout.{other, path_without, assigned_with_it}
+use Rattle.gim_changes.proofs.Members.{first_or, rest_of, IsMember, all_members, all_from_members, slice_member, member_right, member_cases, mapped_member, member_middle, part_member}
+use Rattle.gim_changes.proofs.Unused.{other}
+use Rattle.gim_changes.proofs.PathsWithout.{path_without, assigned_with_it}
 use Rattle.gim_changes.proofs.AssignedBefore.{assigned_where_fresh}
 use Rattle.gim_changes.proofs.NamesRead.{IsRead, IsReadIn, by_phi, by_stmt, by_end}
 use Rattle.gim_changes.proofs.NamesUsed.{named, used_stands, assigned_stands}
@@ -36,23 +37,15 @@ use Rattle.gim_changes.proofs.GrownRules.{assigned_still, new_good, row_more, re
 
 -- ---- where a statement of one name stands
 
-abbrev first_stmt : Stmt → List Stmt → Stmt
-first_stmt d [] = d
-first_stmt d (s ∷ stmts) = s
-
-abbrev rest_of_stmts : List Stmt → List Stmt
-rest_of_stmts [] = []
-rest_of_stmts (s ∷ stmts) = stmts
-
 -- where no other statement assigns its name, a statement stands at one place
 one_place : (stmt : Stmt) (front rest us : List Stmt) (s : Stmt) (vs : List Stmt) → ((t : Stmt) → IsMember t (front ++ rest) → t.name ≡ stmt.name → ⊥) → s.name ≡ stmt.name →
     front ++ stmt ∷ rest ≡ us ++ s ∷ vs → (stmt ≡ s) × (rest ≡ vs)
-one_place stmt [] rest [] s vs none name e = (ap (first_stmt stmt) e, ap rest_of_stmts e)
+one_place stmt [] rest [] s vs none name e = (ap (first_or stmt) e, ap rest_of e)
 one_place stmt [] rest (u ∷ us) s vs none name e =
-    absurd (none s (subst (IsMember s) (sym (ap rest_of_stmts e)) (member_middle s us vs)) name)
+    absurd (none s (subst (IsMember s) (sym (ap rest_of e)) (member_middle s us vs)) name)
 one_place stmt (t ∷ front) rest [] s vs none name e =
-    absurd (none t (inl refl) (ap (λ (w : Stmt). w.name) (ap (first_stmt stmt) e) ∙ name))
-one_place stmt (t ∷ front) rest (u ∷ us) s vs none name e = one_place stmt front rest us s vs (λ w one. none w (inr one)) name (ap rest_of_stmts e)
+    absurd (none t (inl refl) (ap (λ (w : Stmt). w.name) (ap (first_or stmt) e) ∙ name))
+one_place stmt (t ∷ front) rest (u ∷ us) s vs none name e = one_place stmt front rest us s vs (λ w one. none w (inr one)) name (ap rest_of e)
 
 -- the names of statements none of which assigns x
 unfiltered : (x : ℕ) (stmts : List Stmt) → ((t : Stmt) → IsMember t stmts → t.name ≡ x → ⊥) → filter (other x) (map stmt_name stmts) ≡ map stmt_name stmts
@@ -153,27 +146,35 @@ module _ (place before : ℕ) (stmt : Stmt) (decl : Decl) (f : Function) (valid 
       let nothing : filter (other stmt.name) left ≡ [] = ap (filter (other stmt.name)) what in
       ⊎_elim
       (λ old. inl (c, old, by_end name at nothing))
-      (λ (new : insert_in_block before stmt may.home ≡ c). inl (may.home, home_is,
-      by_end (subst (λ (b : Block). IsMember y (names_among (operands_of_end b.end))) (sym new) name) (at ∙ ap (λ (b : Block). b.number) (sym new)) nothing))
+      (λ (new : insert_in_block before stmt may.home ≡ c). inl (
+        may.home,
+        home_is,
+        by_end (subst (λ (b : Block). IsMember y (names_among (operands_of_end b.end))) (sym new) name) (at ∙ ap (λ (b : Block). b.number) (sym new)) nothing,
+      ))
       (member_changed place (insert_in_block before stmt) f.blocks may.home may.at c one)
   read_before c one y n left (by_stmt front s rest is name at what) = ⊎_elim
       (λ (same : s.name ≡ stmt.name).
       let new = the_new_stmt c one front s rest is same in
-      inr (subst (λ (t : Stmt). IsMember y (names_among (operands_of_stmt t))) (sym new.1) name,
-      at ∙ ap (λ (b : Block). b.number) (sym new.0),
-      ap (filter (other stmt.name)) (what ∙ ap (λ z. z ∷ map stmt_name rest) same)
-      ∙ (ap (λ b. cond (not b) (stmt.name ∷ filter (other stmt.name) (map stmt_name rest)) (filter (other stmt.name) (map stmt_name rest))) (eq-eqb stmt.name stmt.name refl)
-      ∙ (ap (λ l. filter (other stmt.name) (map stmt_name l)) (sym new.2)
-      ∙ unfiltered stmt.name (drop before may.home.stmts) (λ t mine its. old_stmt may.home home_is t
-      (subst (IsMember t) (take-append-drop before may.home.stmts) (member_right t (take before may.home.stmts) (drop before may.home.stmts) mine)) its)))))
+      inr (
+        subst (λ (t : Stmt). IsMember y (names_among (operands_of_stmt t))) (sym new.1) name,
+        at ∙ ap (λ (b : Block). b.number) (sym new.0),
+        ap (filter (other stmt.name)) (what ∙ ap (λ z. z ∷ map stmt_name rest) same)
+            ∙ (ap (λ b. cond (not b) (stmt.name ∷ filter (other stmt.name) (map stmt_name rest)) (filter (other stmt.name) (map stmt_name rest))) (eq-eqb stmt.name stmt.name refl)
+            ∙ (ap (λ l. filter (other stmt.name) (map stmt_name l)) (sym new.2)
+            ∙ unfiltered stmt.name (drop before may.home.stmts) (λ t mine its. old_stmt may.home home_is t
+            (subst (IsMember t) (take-append-drop before may.home.stmts) (member_right t (take before may.home.stmts) (drop before may.home.stmts) mine)) its))),
+      ))
       (λ apart.
       let old = block_without c one in
       let stays : stmt_stays stmt.name s ≡ true = ap not (false_from_ne_true (eqb s.name stmt.name) (λ same. apart (eqb-true s.name stmt.name same))) in
-      inl (without_in_block stmt.name c, old,
-      by_stmt (filter (stmt_stays stmt.name) front) s (filter (stmt_stays stmt.name) rest)
-      (ap (filter (stmt_stays stmt.name)) is ∙ (filter-append (stmt_stays stmt.name) front (s ∷ rest)
-      ∙ ap (λ b. filter (stmt_stays stmt.name) front ++ cond b (s ∷ filter (stmt_stays stmt.name) rest) (filter (stmt_stays stmt.name) rest)) stays))
-      name at (ap (filter (other stmt.name)) what ∙ sym (left_before stmt.name s (filter (stmt_stays stmt.name) rest) rest stays refl))))
+      inl (
+        without_in_block stmt.name c,
+        old,
+        by_stmt (filter (stmt_stays stmt.name) front) s (filter (stmt_stays stmt.name) rest)
+            (ap (filter (stmt_stays stmt.name)) is ∙ (filter-append (stmt_stays stmt.name) front (s ∷ rest)
+            ∙ ap (λ b. filter (stmt_stays stmt.name) front ++ cond b (s ∷ filter (stmt_stays stmt.name) rest) (filter (stmt_stays stmt.name) rest)) stays))
+            name at (ap (filter (other stmt.name)) what ∙ sym (left_before stmt.name s (filter (stmt_stays stmt.name) rest) rest stays refl)),
+      ))
       (cases_eq s.name stmt.name)
 
   all_assigned : AreUsesAssigned g

@@ -21,10 +21,11 @@ use Rattle.gim_changes.specs.Trimming.{trimmed, tidied}
 use Rattle.gim_changes.specs.Validity.{IsAssignedAfter}
 use Rattle.gim_changes.proofs.Unused.{fewer_assigned, pruned_end, pruned_more, assigned_without, others_in_block, names_of_others}
 use Rattle.gim_changes.proofs.TrimmedFirst.{used_before, tidied_trimmed}
-use Rattle.gim_changes.proofs.Members.{IsMember, all_members, all_from_members, member_cases, member_filtered, filtered_member, member_mapped, member_middle, member_of_parts, part_member}
+use Rattle.gim_changes.proofs.Members.{first_or, rest_of, IsMember, all_members, all_from_members, member_cases, member_filtered, filtered_member, member_mapped, member_middle, member_of_parts, part_member}
 use Rattle.gim_changes.proofs.DistinctNumbers.{AreDistinct, distinct_filtered}
 use Rattle.gim_changes.proofs.FilteredLists.{first_of_filtered}
-use Rattle.gim_changes.proofs.PathsWithout.{other, less, assigned_without_it, lifted_to, lifted_to_end}
+use Rattle.gim_changes.proofs.Unused.{other}
+use Rattle.gim_changes.proofs.PathsWithout.{less, assigned_without_it, lifted_to, lifted_to_end}
 use Rattle.gim_changes.proofs.NamesRead.{IsReadIn, by_phi, by_stmt, by_end}
 use Rattle.gim_changes.proofs.NamesUsed.{read_is_used, used_stands, operand_of_phis, operand_of_stmts, operand_of_end}
 use Rattle.gim_changes.proofs.RulesOfNames.{ordered, StandsAt, among_member, member_among, reader}
@@ -33,14 +34,6 @@ use Rattle.gim_changes.proofs.ComesBefore.{none_in_own_support}
 use Rattle.gim_changes.proofs.SupportChanges.{supports_within}
 use Rattle.gim_changes.proofs.ReadyToTrim.{IsReadyToTrim, trimmed_valid, trimmed_is, assigned_from_more, below}
 use Rattle.gim_changes.proofs.ChangedBlocks.{IsLikeBlock, mapped_like, with_blocks, ready_with_blocks, BlockHolds, block_holds, holds_with_blocks, operands_from}
-
-abbrev first_stmt : Stmt → List Stmt → Stmt
-first_stmt d [] = d
-first_stmt d (s ∷ stmts) = s
-
-abbrev rest_of_stmts : List Stmt → List Stmt
-rest_of_stmts [] = []
-rest_of_stmts (s ∷ stmts) = stmts
 
 -- ---- the rules
 
@@ -80,14 +73,26 @@ module _ (x : ℕ) where
       let few_phis = flat_map operands_of_phi (filter (phi_stays x) b.phis) in
       let few_stmts = flat_map operands_of_stmt (filter (stmt_stays x) b.stmts) in
       let ends = operands_of_end b.end in
-      omega (arith, fewer_of operands_of_phi (phi_stays x) b.phis, fewer_of operands_of_stmt (stmt_stays x) b.stmts,
-      length-append (phis ++ stmts) ends, length-append phis stmts, length-append (few_phis ++ few_stmts) ends, length-append few_phis few_stmts)
+      omega (
+        arith,
+        fewer_of operands_of_phi (phi_stays x) b.phis,
+        fewer_of operands_of_stmt (stmt_stays x) b.stmts,
+        length-append (phis ++ stmts) ends,
+        length-append phis stmts,
+        length-append (few_phis ++ few_stmts) ends,
+        length-append few_phis few_stmts,
+      )
 
   fewer_in_blocks : (bs : List Block) → length (flat_map operands_of_block (map (without_in_block x) bs)) ≤ length (flat_map operands_of_block bs)
   fewer_in_blocks [] = omega arith
   fewer_in_blocks (b ∷ bs) =
-      omega (arith, fewer_in_block b, fewer_in_blocks bs, length-append (operands_of_block b) (flat_map operands_of_block bs),
-      length-append (operands_of_block (without_in_block x b)) (flat_map operands_of_block (map (without_in_block x) bs)))
+      omega (
+        arith,
+        fewer_in_block b,
+        fewer_in_blocks bs,
+        length-append (operands_of_block b) (flat_map operands_of_block bs),
+        length-append (operands_of_block (without_in_block x b)) (flat_map operands_of_block (map (without_in_block x) bs)),
+      )
 
   holds_without : (f : Function) (b : Block) → BlockHolds f b → BlockHolds f (without_in_block x b)
   holds_without f b holds =
@@ -207,8 +212,8 @@ module _ (x : ℕ) where
           cond b (s ∷ filter (stmt_stays x) stmts) (filter (stmt_stays x) stmts) ≡ us ++ stmt ∷ rest →
           (all_front : List Stmt) × (all_rest : List Stmt) × (s ∷ stmts ≡ all_front ++ stmt ∷ all_rest) × (filter (stmt_stays x) all_rest ≡ rest)
       by false us more is = longer more us is
-      by true [] more is = ([], stmts, ap (λ z. z ∷ stmts) (ap (first_stmt stmt) is), ap rest_of_stmts is)
-      by true (u ∷ us) more is = longer more us (ap rest_of_stmts is)
+      by true [] more is = ([], stmts, ap (λ z. z ∷ stmts) (ap (first_or stmt) is), ap rest_of is)
+      by true (u ∷ us) more is = longer more us (ap rest_of is)
 
   pub left_before : (stmt : Stmt) (rest all_rest : List Stmt) → stmt_stays x stmt ≡ true → filter (stmt_stays x) all_rest ≡ rest →
       map stmt_name (stmt ∷ rest) ≡ filter (other x) (map stmt_name (stmt ∷ all_rest))

@@ -1,5 +1,5 @@
 //! A new statement before a place, with the declaration and the row of its name.
-ghost use Rattle.std.specs.Prelude.{◌≡◌, ◌≤◌, Some, length, take, slice_get, OnOk, OnErr};
+ghost use Rattle.std.specs.Prelude.{◌≡◌, ◌↔◌, IsTrue, ◌≤◌, Some, length, take, slice_get, OnOk, OnErr};
 ghost use Rattle.gim_ast.specs.declared.function.Block.{Block as TheBlock};
 ghost use Rattle.gim_changes.specs.Insertion as insertion;
 ghost use Rattle.gim_changes.specs.Insertion.{HasPlace, changed_at, insert_in_block, row_for};
@@ -8,6 +8,16 @@ use gim_ast::{Block, Decl, Function, NameRow, Stmt};
 use pm_items::Items;
 use pm_ops::{OutOfMemory, Text};
 use std::alloc::Global;
+
+/// Whether the function has a block at a place, and a place before a statement or at the end there.
+pub fn has_place(function: &Function, block: usize, before: usize) -> bool
+    ensures { IsTrue result ↔ HasPlace function.now block before }
+{
+    match function.blocks.get(block) {
+        Some(home) => before <= home.stmts.len(),
+        None => false,
+    }
+}
 
 /// Puts a statement into the block of a place, before the statement that has the place `before` there, or at the
 /// end. Its name is declared last and gets the last row of `names`. Where memory is short nothing is changed.

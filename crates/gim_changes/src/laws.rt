@@ -1,4 +1,5 @@
 //! What changes of a function keep. Each call here does nothing: its contract is a law, which its check proves.
+pub mod insertion;
 pub mod readability;
 pub mod validity;
 

@@ -10,7 +10,7 @@ mod removal;
 mod substitution;
 mod trimming;
 
-pub use insertion::insert_stmt;
+pub use insertion::{has_place, insert_stmt};
 pub use removal::prune;
 pub use substitution::{put_in_all, set_condition, set_rhs};
 pub use trimming::{tidy, trim};

@@ -77,6 +77,14 @@ fn first_len(function: &Function) -> usize {
     function.blocks.get(0).map_or(0, |block| block.stmts.len())
 }
 
+/// Whether the second statement of the first block assigns the name.
+fn stands_second(function: &Function, name: u32) -> bool {
+    match function.blocks.get(0) {
+        Some(block) => block.stmts.get(1).map_or(false, |stmt| stmt.name == name),
+        None => false,
+    }
+}
+
 /// What was put for a name is used, and the copy goes with what is unused.
 #[test]
 fn a_copy_goes_once_its_operand_is_put_for_it(rt: HostRuntime) -> Result<(), OutOfMemory> {
@@ -107,5 +115,25 @@ fn right_sides_and_conditions_are_set(rt: HostRuntime) -> Result<(), OutOfMemory
     assert_eq!(rt; first_len(&function), 1);
     assert_eq!(rt; function.names.len(), 2);
     assert!(rt; function.uses(3));
+    Ok(())
+}
+
+/// A statement stands before the one that had its place, with its declaration and its row.
+#[test]
+fn a_statement_is_inserted_before_another(rt: HostRuntime) -> Result<(), OutOfMemory> {
+    let alloc = rt.alloc();
+    let mut function = sample(alloc)?;
+    let decl = Decl {
+        ident: Text::new(alloc, b"_9")?,
+        ty: IntType::int(),
+    };
+    assert!(rt; has_place(&function, 0, 1));
+    assert!(rt; !has_place(&function, 2, 0));
+    insert_stmt(alloc, &mut function, 0, 1, sum(alloc, 9, 2, 1), decl)?;
+    assert!(rt; function.well_formed());
+    assert_eq!(rt; first_len(&function), 4);
+    assert!(rt; stands_second(&function, 9));
+    assert_eq!(rt; function.names.len(), 5);
+    assert_eq!(rt; function.decls.len(), 1);
     Ok(())
 }
