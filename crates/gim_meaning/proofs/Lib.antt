@@ -10,6 +10,7 @@ pub mod NewRightSides
 pub mod NewRows
 pub mod OnePlace
 pub mod OperandsStand
+pub mod PartsOfTerms
 pub mod PathsBack
 pub mod PhiReading
 pub mod PhisOfOneOperand
