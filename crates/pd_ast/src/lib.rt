@@ -5,7 +5,9 @@
 #![tactic(auto)]
 
 mod c_text;
+mod call;
 mod form;
+mod operator;
 mod pattern;
 mod predicate;
 mod result;
@@ -14,7 +16,9 @@ mod same_text;
 mod tests;
 
 pub use c_text::{CDecl, CExpr, CNode, CType, DeclKind};
+pub use call::Call;
 pub use form::{ForForm, Form, MatchForm, PredRow, Row, Rows, SimplifyForm};
+pub use operator::{BinaryOperator, UnaryOperator};
 pub use pattern::{Cap, Commute, Flags, OpRef, Pat, PatNode};
 pub use predicate::holds;
 pub use result::{Out, OutNode, SwitchCase, Tail};

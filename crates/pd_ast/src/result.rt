@@ -1,8 +1,9 @@
 //! Results of patterns, and the ends of cases of predicates.
-ghost use Rattle.std.specs.Prelude.{◌≡◌, IfOk};
+ghost use Rattle.std.specs.Prelude.{◌≡◌, ◌↔◌, IfOk, IsTrue};
 
 use crate::c_text::{CDecl, CExpr};
 use crate::pattern::OpRef;
+use crate::same_text::{same_name, same_text};
 use pm_items::{Items, Shared};
 use pm_ops::{OutOfMemory, Text};
 use std::alloc::Global;
@@ -76,6 +77,38 @@ impl Out {
             }
         }
     }
+
+    /// Whether two results are one and the same.
+    #[cycle(same)]
+    pub fn same(&self, other: &Out) -> bool
+        ensures { IsTrue result ↔ (self.now ≡ other.now) }
+    {
+        match (self, other) {
+            (Out::Hole(a), Out::Hole(b)) => same_text(a, b),
+            (Out::Brace(a), Out::Brace(b)) => a.same(b),
+            (Out::Node(a), Out::Node(b)) => a.same(b),
+            (Out::If(a, x, s), Out::If(b, y, t)) => {
+                a.same(b) && x.get().same(y.get()) && same_result(s, t)
+            }
+            (Out::Switch(xs, s), Out::Switch(ys, t)) => {
+                same_cases(xs.as_slice(), ys.as_slice()) && same_result(s, t)
+            }
+            (Out::With(a, x), Out::With(b, y)) => {
+                same_decls(a.as_slice(), b.as_slice()) && x.get().same(y.get())
+            }
+            _ => false,
+        }
+    }
+}
+
+impl SwitchCase {
+    /// Whether two cases are one and the same.
+    #[cycle(same)]
+    pub fn same(&self, other: &SwitchCase) -> bool
+        ensures { IsTrue result ↔ (self.now ≡ other.now) }
+    {
+        self.when.same(&other.when) && self.gives.get().same(other.gives.get())
+    }
 }
 
 impl OutNode {
@@ -94,6 +127,17 @@ impl OutNode {
             args: shared_results(alloc, self.args.as_slice())?,
         })
     }
+
+    /// Whether two operations are one and the same.
+    #[cycle(same)]
+    pub fn same(&self, other: &OutNode) -> bool
+        ensures { IsTrue result ↔ (self.now ≡ other.now) }
+    {
+        self.must_fold == other.must_fold
+            && self.op.same(&other.op)
+            && same_name(&self.ty, &other.ty)
+            && same_results(self.args.as_slice(), other.args.as_slice())
+    }
 }
 
 impl Tail {
@@ -108,6 +152,20 @@ impl Tail {
                 let decls = copied_decls(alloc, decls.as_slice())?;
                 Ok(Tail::With(decls, rest.share()?))
             }
+        }
+    }
+
+    /// Whether two ends are one and the same.
+    pub fn same(&self, other: &Tail) -> bool
+        ensures { IsTrue result ↔ (self.now ≡ other.now) }
+    {
+        match (self, other) {
+            (Tail::Done, Tail::Done) => true,
+            (Tail::If(a, x), Tail::If(b, y)) => a.same(b) && x.get().same(y.get()),
+            (Tail::With(a, x), Tail::With(b, y)) => {
+                same_decls(a.as_slice(), b.as_slice()) && x.get().same(y.get())
+            }
+            _ => false,
         }
     }
 }
@@ -156,4 +214,61 @@ fn copied_decls(alloc: Global, decls: &[CDecl]) -> Result<Items<CDecl>, OutOfMem
         made.push(decl.copy(alloc)?)?;
     }
     Ok(made)
+}
+
+/// Whether two results that may be absent are one and the same.
+#[cycle(same)]
+fn same_result(a: &Option<Shared<Out>>, b: &Option<Shared<Out>>) -> bool
+    ensures { IsTrue result ↔ (a.now ≡ b.now) }
+{
+    match (a, b) {
+        (Some(a), Some(b)) => a.get().same(b.get()),
+        (None, None) => true,
+        _ => false,
+    }
+}
+
+#[cycle(same)]
+fn same_results(a: &[Shared<Out>], b: &[Shared<Out>]) -> bool
+    ensures { IsTrue result ↔ (a.now ≡ b.now) }
+{
+    if a.len() != b.len() {
+        return false;
+    }
+    for i in 0..a.len() {
+        if !a[i].get().same(b[i].get()) {
+            return false;
+        }
+    }
+    true
+}
+
+#[cycle(same)]
+fn same_cases(a: &[SwitchCase], b: &[SwitchCase]) -> bool
+    ensures { IsTrue result ↔ (a.now ≡ b.now) }
+{
+    if a.len() != b.len() {
+        return false;
+    }
+    for i in 0..a.len() {
+        if !a[i].same(&b[i]) {
+            return false;
+        }
+    }
+    true
+}
+
+/// Whether two lists of declarations are one and the same.
+fn same_decls(a: &[CDecl], b: &[CDecl]) -> bool
+    ensures { IsTrue result ↔ (a.now ≡ b.now) }
+{
+    if a.len() != b.len() {
+        return false;
+    }
+    for i in 0..a.len() {
+        if !a[i].same(&b[i]) {
+            return false;
+        }
+    }
+    true
 }
