@@ -1,0 +1,5 @@
+//! The values of C text.
+#![tactic(auto)]
+
+mod reading;
+mod words;
