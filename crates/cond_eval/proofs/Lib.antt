@@ -1,3 +1,5 @@
 pub mod CountLemmas
+pub mod IntegerLemmas
+pub mod Lookups
 pub mod ReadingLemmas
 pub mod WordLemmas

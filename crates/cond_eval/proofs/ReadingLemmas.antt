@@ -1,14 +1,15 @@
 -- Words of a smaller precision as words of 128 bits.
-use Rattle.std.proofs.Common.{◌≡◌, ℕ, zero, suc, ◌+◌, ◌-◌, ◌/◌, ◌%◌, ◌^◌, ◌≤◌, ◌<◌, Bool, true, false, not, cond, ◌||◌, refl, sym, ap, subst, ◌∙◌, arith}
+use Rattle.std.proofs.Common.{◌≡◌, ℕ, zero, suc, ◌+◌, ◌-◌, ◌/◌, ◌%◌, ◌^◌, ◌≤◌, ◌<◌, Bool, true, false, not, cond, ◌||◌, ◌⊎◌, inl, inr, min, refl, sym, ap, subst, ◌∙◌, arith}
 use Rattle.std.specs.Prelude.{ℤ, pos, negsuc, neg_ℤ, ◌+ℤ◌, ◌-ℤ◌, ◌==◌, IsTrue, nat_lt, nat_eq}
 use Rattle.std.proofs.lemmas.Int.{ints}
 use Rattle.std.proofs.lemmas.Nat.{pow_pos}
 use Rattle.std.proofs.Math.Pow.{pow_mono}
 use Rattle.std.proofs.Math.Nat.{pow-suc, div-le_self, mod-eq_of_lt}
-use borrow.Author.Tests.{ltb-true, ltb-false, eqb-true, eq-eqb}
-use Rattle.std.specs.Int.{int_div_euclid}
+use borrow.Author.Tests.{ltb-true, ltb-false, eqb-true, eq-eqb, lt-ltb}
+use Rattle.std.specs.Int.{int_div_euclid, int_signum}
 use Rattle.pm_wide.specs.Residues.{residue}
-use Rattle.pm_wide.specs.Types.{Ty, word_of, value_of, in_range, least}
+use Rattle.pm_wide.specs.Types.{Ty, word_of, value_of, in_range, least, greatest}
+use Rattle.pm_wide.specs.Congruence.{Congruent}
 use Rattle.pm_wide.proofs.Congruence.{fewer_places}
 use Rattle.pm_wide.proofs.Words.{same_word, word_congruent, word-below, word-value, value-word, value_in_range, bounds, within}
 use Rattle.pm_wide.proofs.Residues.{ones}
@@ -116,3 +117,74 @@ shifted_high p a k h l =
     let less = div-le_self below (2 ^ k) in
     let small : below / 2 ^ k % 2 ^ p ≡ below / 2 ^ k = mod-eq_of_lt (omega (arith, less)) in
     sym (ap (λ z. residue p (int_div_euclid z (pos (2 ^ k)))) is ∙ ap (λ n. 2 ^ p - 1 - n) small)
+
+-- ---- the least and the greatest value of a type
+
+module _ (t : Ty) (some : 0 < t.width) where
+  pub least_unsigned : t.unsigned ≡ true → 0 ≡ residue t.width (least t)
+  least_unsigned u = by t.unsigned u
+    where
+      by : (b : Bool) → b ≡ true → 0 ≡ residue t.width (cond b (pos 0) (neg_ℤ (pos (2 ^ (t.width - 1)))))
+      by true e = sym (mod-eq_of_lt (pow_pos t.width))
+      by false e = cc
+
+  pub least_signed : t.unsigned ≡ false → 2 ^ (t.width - 1) ≡ residue t.width (least t)
+  least_signed u = by t.unsigned u
+    where
+      half : 2 ^ (t.width - 1) < 2 ^ t.width
+      half = omega (arith, halves t.width some, pow_pos (t.width - 1))
+
+      one : Congruent t.width (pos (2 ^ (t.width - 1))) (neg_ℤ (pos (2 ^ (t.width - 1))))
+      one = record { multiple = pos 1; differ = omega (arith, ints, halves t.width some) }
+
+      by : (b : Bool) → b ≡ false → 2 ^ (t.width - 1) ≡ residue t.width (cond b (pos 0) (neg_ℤ (pos (2 ^ (t.width - 1)))))
+      by true e = cc
+      by false e = sym (mod-eq_of_lt half) ∙ same_word (numbers true t.width) (pos (2 ^ (t.width - 1))) _ one
+
+  pub greatest_unsigned : t.width ≤ 128 → t.unsigned ≡ true → (2 ^ 128 - 1) % 2 ^ t.width ≡ residue t.width (greatest t)
+  greatest_unsigned h u = by t.unsigned u
+    where
+      small : 2 ^ t.width - 1 < 2 ^ t.width
+      small = omega (arith, pow_pos t.width)
+
+      by : (b : Bool) → b ≡ true → (2 ^ 128 - 1) % 2 ^ t.width ≡ residue t.width (cond b (pos (2 ^ t.width - 1)) (pos (2 ^ (t.width - 1) - 1)))
+      by true e = ones t.width (omega arith) ∙ sym (mod-eq_of_lt small)
+      by false e = cc
+
+  pub greatest_signed : t.unsigned ≡ false → 2 ^ (t.width - 1) - 1 ≡ residue t.width (greatest t)
+  greatest_signed u = by t.unsigned u
+    where
+      small : 2 ^ (t.width - 1) - 1 < 2 ^ t.width
+      small = omega (arith, halves t.width some, pow_pos (t.width - 1))
+
+      by : (b : Bool) → b ≡ false → 2 ^ (t.width - 1) - 1 ≡ residue t.width (cond b (pos (2 ^ t.width - 1)) (pos (2 ^ (t.width - 1) - 1)))
+      by true e = cc
+      by false e = sym (mod-eq_of_lt small)
+
+-- ---- the sign of a word
+
+pub sign_low : (t : Ty) (a : ℕ) → 0 < a → ((t.unsigned ≡ true) ⊎ (a < 2 ^ (t.width - 1))) → pos 1 ≡ int_signum (value_of t a)
+sign_low t a some h = ap (λ n. pos n) (sym (min_one a some)) ∙ ap int_signum (sym (is h))
+  where
+    min_one : (n : ℕ) → 0 < n → min n 1 ≡ 1
+    min_one n p = omega arith
+
+    is : ((t.unsigned ≡ true) ⊎ (a < 2 ^ (t.width - 1))) → value_of t a ≡ pos a
+    is (inl u) = by t.unsigned u
+      where
+        by : (b : Bool) → b ≡ true → cond (b || nat_lt a (2 ^ (t.width - 1))) (pos a) (pos a -ℤ pos (2 ^ t.width)) ≡ pos a
+        by true e = refl
+        by false e = cc
+    is (inr l) = by t.unsigned (nat_lt a (2 ^ (t.width - 1))) (lt-ltb _ _ l)
+      where
+        by : (b c : Bool) → c ≡ true → cond (b || c) (pos a) (pos a -ℤ pos (2 ^ t.width)) ≡ pos a
+        by true c e = refl
+        by false true e = refl
+        by false false e = cc
+
+pub sign_high : (t : Ty) (a : ℕ) → t.unsigned ≡ false → 2 ^ (t.width - 1) ≤ a → a < 2 ^ t.width → negsuc 0 ≡ int_signum (value_of t a)
+sign_high t a u l h = by t.unsigned u
+  where
+    by : (b : Bool) → b ≡ false → negsuc 0 ≡ int_signum (value_of (record { width = t.width; unsigned = b }) a)
+    by true e = cc
+    by false e = let is : read false t.width a ≡ negsuc (2 ^ t.width - 1 - a) = high t.width a l ∙ omega (arith, ints) in sym (ap int_signum is)

@@ -8,8 +8,10 @@ use Rattle.std.proofs.lemmas.Nat.{pow_pos}
 use Rattle.std.proofs.Math.Nat.{mod-eq_of_lt, div-le_self, pow-suc}
 use borrow.Author.Tests.{ltb-true, ltb-false}
 use Rattle.pm_wide.specs.Residues.{residue}
-use Rattle.pm_wide.proofs.Congruence.{fewer_places}
-use Rattle.pm_wide.proofs.Words.{same_word}
+use Rattle.pm_wide.specs.Congruence.{Congruent}
+use Rattle.pm_wide.specs.Types.{Ty, word_of}
+use Rattle.pm_wide.proofs.Congruence.{fewer_places, turned}
+use Rattle.pm_wide.proofs.Words.{same_word, value_congruent}
 use Rattle.pm_wide.proofs.Residues as residues
 use Rattle.pm_wide.proofs.Residues.{residue_congruent}
 use Rattle.pm_wide.proofs.Wrapping as wrapping
@@ -33,3 +35,14 @@ negated p a h k = let same : pos 0 -ℤ pos a ≡ neg_ℤ (pos a) = omega (arith
 
 pub shifted_up : (p a k : ℕ) → p ≤ 128 → (a * 2 ^ k) % 2 ^ 128 % 2 ^ p ≡ residue p (pos a *ℤ pos (2 ^ k))
 shifted_up p a k h = wrapping.shifted_up (numbers true p) a k h
+
+pub all_ones : (t : Ty) → t.width ≤ 128 → (2 ^ 128 - 1) % 2 ^ t.width ≡ word_of t (negsuc 0)
+all_ones t h = let none : 0 % 2 ^ t.width ≡ 0 = mod-eq_of_lt (pow_pos t.width) in residues.ones t.width (omega arith) ∙ omega (arith, none)
+
+pub lower_word : (t : Ty) (z : ℤ) → t.width ≤ 128 → residue 128 z % 2 ^ t.width ≡ word_of t z
+lower_word t z h = lower t.width z h
+
+-- a word of 128 bits that stands for what a word of a smaller precision does, in a type
+pub lower_read : (t : Ty) (u : Bool) (p e a : ℕ) → t.width ≤ 128 → read u 128 e ≡ read u p a → e % 2 ^ t.width ≡ word_of t (read u p a)
+lower_read t u p e a h same =
+    same_word t (pos e) (read u p a) (fewer_places t.width 128 _ _ h (subst (λ z. Congruent 128 (pos e) z) same (turned 128 _ _ (value_congruent (numbers u 128) e))))

@@ -8,7 +8,8 @@ ghost use Rattle.cond_eval.specs.Words.{read, clz_of, ctz_of};
 #[tactic(auto, using(std::proofs::lemmas::Nat::and_mask))]
 pub fn lowest(precision: u8, bits: u128) -> u128
     requires { precision ≤ 128 }
-    ensures { result ≡ bits % 2 ^ precision }
+    ensures value { result ≡ bits % 2 ^ precision }
+    ensures word { result < 2 ^ precision }
 {
     if precision >= 128 {
         bits
@@ -27,7 +28,7 @@ pub fn power_of_two(exponent: u8) -> u128
 
 /// A whole number modulo 2 to the 128th.
 #[tactic(auto, using(crate::proofs::WordLemmas::below_zero, crate::proofs::WordLemmas::from_zero))]
-fn whole(number: i64) -> u128
+pub fn whole(number: i64) -> u128
     ensures { result ≡ residue 128 number }
 {
     let size = u128::from(number.unsigned_abs());
@@ -42,7 +43,8 @@ fn whole(number: i64) -> u128
 #[tactic(auto, using(crate::proofs::WordLemmas::lower))]
 pub fn reduced(precision: u8, number: i64) -> u128
     requires { precision ≤ 128 }
-    ensures { result ≡ residue precision number }
+    ensures value { result ≡ residue precision number }
+    ensures word { result < 2 ^ precision }
 {
     lowest(precision, whole(number))
 }
@@ -51,7 +53,8 @@ pub fn reduced(precision: u8, number: i64) -> u128
 #[tactic(auto, using(pm_wide::proofs::Residues::added))]
 pub fn sum(precision: u8, a: u128, b: u128) -> u128
     requires { precision ≤ 128 }
-    ensures { result ≡ residue precision (pos a +ℤ pos b) }
+    ensures value { result ≡ residue precision (pos a +ℤ pos b) }
+    ensures word { result < 2 ^ precision }
 {
     lowest(precision, a.wrapping_add(b))
 }
@@ -60,7 +63,8 @@ pub fn sum(precision: u8, a: u128, b: u128) -> u128
 #[tactic(auto, using(pm_wide::proofs::Residues::subtracted))]
 pub fn difference(precision: u8, a: u128, b: u128) -> u128
     requires { precision ≤ 128 }
-    ensures { result ≡ residue precision (pos a -ℤ pos b) }
+    ensures value { result ≡ residue precision (pos a -ℤ pos b) }
+    ensures word { result < 2 ^ precision }
 {
     lowest(precision, a.wrapping_sub(b))
 }
@@ -69,7 +73,8 @@ pub fn difference(precision: u8, a: u128, b: u128) -> u128
 #[tactic(auto, using(pm_wide::proofs::Residues::multiplied))]
 pub fn product(precision: u8, a: u128, b: u128) -> u128
     requires { precision ≤ 128 }
-    ensures { result ≡ residue precision (pos a *ℤ pos b) }
+    ensures value { result ≡ residue precision (pos a *ℤ pos b) }
+    ensures word { result < 2 ^ precision }
 {
     lowest(precision, a.wrapping_mul(b))
 }
@@ -78,7 +83,8 @@ pub fn product(precision: u8, a: u128, b: u128) -> u128
 #[tactic(auto, using(crate::proofs::WordLemmas::negated))]
 pub fn negative(precision: u8, a: u128) -> u128
     requires { precision ≤ 128 }
-    ensures { result ≡ residue precision (neg_ℤ (pos a)) }
+    ensures value { result ≡ residue precision (neg_ℤ (pos a)) }
+    ensures word { result < 2 ^ precision }
 {
     lowest(precision, 0u128.wrapping_sub(a))
 }
@@ -88,9 +94,42 @@ pub fn negative(precision: u8, a: u128) -> u128
 pub fn complement(precision: u8, a: u128) -> u128
     requires precision { precision ≤ 128 }
     requires word { a < 2 ^ precision }
-    ensures { result ≡ 2 ^ precision - 1 - a }
+    ensures value { result ≡ 2 ^ precision - 1 - a }
+    ensures word { result < 2 ^ precision }
 {
     lowest(precision, !a)
+}
+
+/// The bits that are set in both words.
+#[tactic(auto, using(std::proofs::lemmas::Nat::and_le_l))]
+pub fn both(precision: u8, a: u128, b: u128) -> u128
+    requires { a < 2 ^ precision }
+    ensures value { result ≡ bit_and a b }
+    ensures word { result < 2 ^ precision }
+{
+    a & b
+}
+
+/// The bits that are set in one of two words at least.
+#[tactic(auto, using(std::proofs::lemmas::Nat::or_lt))]
+pub fn either(precision: u8, a: u128, b: u128) -> u128
+    requires a { a < 2 ^ precision }
+    requires b { b < 2 ^ precision }
+    ensures value { result ≡ bit_or a b }
+    ensures word { result < 2 ^ precision }
+{
+    a | b
+}
+
+/// The bits that are set in one of two words alone.
+#[tactic(auto, using(std::proofs::lemmas::Nat::xor_lt))]
+pub fn one_alone(precision: u8, a: u128, b: u128) -> u128
+    requires a { a < 2 ^ precision }
+    requires b { b < 2 ^ precision }
+    ensures value { result ≡ bit_xor a b }
+    ensures word { result < 2 ^ precision }
+{
+    a ^ b
 }
 
 /// A word shifted up.
@@ -98,7 +137,8 @@ pub fn complement(precision: u8, a: u128) -> u128
 pub fn shifted_up(precision: u8, a: u128, places: u8) -> u128
     requires precision { precision ≤ 128 }
     requires places { places < precision }
-    ensures { result ≡ residue precision (pos a *ℤ pos (2 ^ places)) }
+    ensures value { result ≡ residue precision (pos a *ℤ pos (2 ^ places)) }
+    ensures word { result < 2 ^ precision }
 {
     lowest(precision, a << places)
 }
@@ -106,8 +146,10 @@ pub fn shifted_up(precision: u8, a: u128, places: u8) -> u128
 /// A word shifted down, with zeros from above.
 pub fn shifted_down(precision: u8, a: u128, places: u8) -> u128
     requires precision { precision ≤ 128 }
+    requires word { a < 2 ^ precision }
     requires places { places < precision }
-    ensures { result ≡ a / 2 ^ places }
+    ensures value { result ≡ a / 2 ^ places }
+    ensures word { result < 2 ^ precision }
 {
     a >> places
 }
@@ -118,7 +160,8 @@ pub fn shifted_signed(precision: u8, a: u128, places: u8) -> u128
     requires precision { precision ≤ 128 }
     requires places { places < precision }
     requires word { a < 2 ^ precision }
-    ensures { result ≡ residue precision (int_div_euclid (read false precision a) (pos (2 ^ places))) }
+    ensures value { result ≡ residue precision (int_div_euclid (read false precision a) (pos (2 ^ places))) }
+    ensures word { result < 2 ^ precision }
 {
     if a < power_of_two(precision - 1) {
         a >> places
