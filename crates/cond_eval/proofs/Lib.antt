@@ -1,3 +1,4 @@
+pub mod Arguments
 pub mod CountLemmas
 pub mod IntegerLemmas
 pub mod Lookups
