@@ -1,6 +1,6 @@
 -- The last pair that passes a test, found from the front.
-use Rattle.std.proofs.Common.{◌≡◌, Bool, true, false, cond, Option, Some, None, List, [], ◌∷◌, All, IfSome, refl}
-use Rattle.std.proofs.lemmas.List.Elements.{All-head, All-tail}
+use Rattle.std.proofs.Common.{◌≡◌, Bool, true, false, cond, Option, Some, None, List, [], ◌∷◌, ◌++◌, All, IfSome, refl}
+use Rattle.std.proofs.lemmas.List.Elements.{All-head, All-tail, All-append, All-cons, All-nil}
 use Rattle.std.specs.Str.{bytes_eq}
 use Rattle.std.specs.Option.{option_or}
 use Rattle.pm_ops.specs.Names.{Name}
@@ -32,3 +32,6 @@ found_has {K} {X} P test (p ∷ ps) all = by (last_where test ps) (test p.0) (fo
 
 pub named_value : (locals : List (Name × CValue)) (name : Name) → AreValues locals → IfSome (named locals name) IsValue
 named_value locals name all = found_has IsValue (λ key. bytes_eq key name) locals all
+
+pub one_more : (locals : List (Name × CValue)) (name : Name) (value : CValue) → AreValues locals → IsValue value → AreValues (locals ++ (name, value) ∷ [])
+one_more locals name value all is = All-append (λ (p : Name × CValue). IsValue p.1) locals _ all (All-cons (λ (p : Name × CValue). IsValue p.1) (name, value) [] is (All-nil (λ (p : Name × CValue). IsValue p.1)))

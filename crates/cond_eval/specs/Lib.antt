@@ -1,5 +1,6 @@
 pub mod CValues
 pub mod Calls
+pub mod Declarations
 pub mod Environments
 pub mod Operators
 pub mod Values

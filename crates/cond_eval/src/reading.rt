@@ -87,7 +87,8 @@ pub fn is_at_most(reading: Reading, a: u128, b: u128) -> bool
 fn settled(reading: Reading, exact: (u128, bool)) -> (u128, bool)
     requires some { 0 < reading.precision }
     requires precision { reading.precision ≤ 128 }
-    ensures { (z : ℤ) → exact ≡ exactly reading.unsigned 128 z → result ≡ exactly reading.unsigned reading.precision z }
+    ensures value { (z : ℤ) → exact ≡ exactly reading.unsigned 128 z → result ≡ exactly reading.unsigned reading.precision z }
+    ensures word { result.0 < 2 ^ reading.precision }
 {
     let (wide, outside) = exact;
     let word = lowest(reading.precision, wide);
@@ -100,7 +101,8 @@ pub fn exact_sum(reading: Reading, a: u128, b: u128) -> (u128, bool)
     requires precision { reading.precision ≤ 128 }
     requires a_is_word { a < 2 ^ reading.precision }
     requires b_is_word { b < 2 ^ reading.precision }
-    ensures { result ≡ exactly reading.unsigned reading.precision (read reading.unsigned reading.precision a +ℤ read reading.unsigned reading.precision b) }
+    ensures value { result ≡ exactly reading.unsigned reading.precision (read reading.unsigned reading.precision a +ℤ read reading.unsigned reading.precision b) }
+    ensures word { result.0 < 2 ^ reading.precision }
 {
     let a = extended(reading, a);
     let b = extended(reading, b);
@@ -113,7 +115,8 @@ pub fn exact_difference(reading: Reading, a: u128, b: u128) -> (u128, bool)
     requires precision { reading.precision ≤ 128 }
     requires a_is_word { a < 2 ^ reading.precision }
     requires b_is_word { b < 2 ^ reading.precision }
-    ensures { result ≡ exactly reading.unsigned reading.precision (read reading.unsigned reading.precision a -ℤ read reading.unsigned reading.precision b) }
+    ensures value { result ≡ exactly reading.unsigned reading.precision (read reading.unsigned reading.precision a -ℤ read reading.unsigned reading.precision b) }
+    ensures word { result.0 < 2 ^ reading.precision }
 {
     let a = extended(reading, a);
     let b = extended(reading, b);
@@ -126,7 +129,8 @@ pub fn exact_product(reading: Reading, a: u128, b: u128) -> (u128, bool)
     requires precision { reading.precision ≤ 128 }
     requires a_is_word { a < 2 ^ reading.precision }
     requires b_is_word { b < 2 ^ reading.precision }
-    ensures { result ≡ exactly reading.unsigned reading.precision (read reading.unsigned reading.precision a *ℤ read reading.unsigned reading.precision b) }
+    ensures value { result ≡ exactly reading.unsigned reading.precision (read reading.unsigned reading.precision a *ℤ read reading.unsigned reading.precision b) }
+    ensures word { result.0 < 2 ^ reading.precision }
 {
     let a = extended(reading, a);
     let b = extended(reading, b);
@@ -138,7 +142,8 @@ pub fn exact_negative(reading: Reading, a: u128) -> (u128, bool)
     requires some { 0 < reading.precision }
     requires precision { reading.precision ≤ 128 }
     requires word { a < 2 ^ reading.precision }
-    ensures { result ≡ exactly reading.unsigned reading.precision (neg_ℤ (read reading.unsigned reading.precision a)) }
+    ensures value { result ≡ exactly reading.unsigned reading.precision (neg_ℤ (read reading.unsigned reading.precision a)) }
+    ensures word { result.0 < 2 ^ reading.precision }
 {
     let a = extended(reading, a);
     settled(reading, neg_overflow(a, widest(reading.unsigned)))

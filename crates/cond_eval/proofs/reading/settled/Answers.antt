@@ -3,14 +3,14 @@ use Rattle.cond_eval.specs.Words.{read}
 use Rattle.cond_eval.proofs.ReadingLemmas.{settled_word, outside_all, in_all, given_back}
 use Rattle.cond_eval.proofs.reading.settled.Goals as goal
 
-pub returns-then-outside : goal.returns-then-outside
-returns-then-outside c = λ z h i. (
+pub returns-then-outside-clause-value : goal.returns-then-outside-clause-value
+returns-then-outside-clause-value c = λ z h i. (
   settled_word c.args.reading.unsigned c.args.reading.precision z c.args.exact.0 c.lowest-word.result c.requires.precision c.lowest-word.ensures.value (ap (λ x. x.0) h) i,
   (c.if-outside.true ∙ sym (outside_all c.args.reading.unsigned c.args.reading.precision z c.requires.precision (sym (ap (λ x. x.1) h) ∙ c.if-outside.true))) i,
 )
 
-pub returns-else-outside : goal.returns-else-outside
-returns-else-outside c = λ z h.
+pub returns-else-outside-clause-value : goal.returns-else-outside-clause-value
+returns-else-outside-clause-value c = λ z h.
     let u = c.args.reading.unsigned in
     let p = c.args.reading.precision in
     let word = settled_word u p z c.args.exact.0 c.lowest-word.result c.requires.precision c.lowest-word.ensures.value (ap (λ x. x.0) h) in
