@@ -1,6 +1,6 @@
 -- Which whole numbers are from -2^63 to 2^63 - 1.
-use Rattle.std.proofs.Common.{◌≡◌, ℕ, ◌-◌, ◌^◌, ◌<◌, Bool, true, false, cond, Some, None, refl, sym, arith}
-use Rattle.std.specs.Prelude.{ℤ, pos, negsuc, neg_ℤ, FitsSigned, IsTrue}
+use Rattle.std.proofs.Common.{◌≡◌, Bool, true, false, cond, Some, None, refl, arith}
+use Rattle.std.specs.Prelude.{ℤ, pos, negsuc, FitsSigned, IsTrue}
 use Rattle.std.specs.Int.{w64}
 use Rattle.std.proofs.lemmas.Int.{ints}
 use Rattle.pm_wide.specs.Types.{in_range, long_type}

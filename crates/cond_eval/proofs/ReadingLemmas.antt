@@ -1,6 +1,6 @@
 -- Words of a smaller precision as words of 128 bits.
 use Rattle.std.proofs.Common.{◌≡◌, ℕ, zero, suc, ◌+◌, ◌-◌, ◌/◌, ◌%◌, ◌^◌, ◌≤◌, ◌<◌, Bool, true, false, not, cond, ◌||◌, ◌⊎◌, inl, inr, min, refl, sym, ap, subst, ◌∙◌, arith}
-use Rattle.std.specs.Prelude.{ℤ, pos, negsuc, neg_ℤ, ◌+ℤ◌, ◌-ℤ◌, ◌==◌, IsTrue, nat_lt, nat_eq}
+use Rattle.std.specs.Prelude.{ℤ, pos, negsuc, neg_ℤ, ◌-ℤ◌, IsTrue, nat_lt, nat_eq}
 use Rattle.std.proofs.lemmas.Int.{ints}
 use Rattle.std.proofs.lemmas.Nat.{pow_pos}
 use Rattle.std.proofs.Math.Pow.{pow_mono}
@@ -10,9 +10,9 @@ use Rattle.std.specs.Int.{int_div_euclid, int_signum}
 use Rattle.pm_wide.specs.Residues.{residue}
 use Rattle.pm_wide.specs.Types.{Ty, word_of, value_of, in_range, least, greatest}
 use Rattle.pm_wide.specs.Congruence.{Congruent}
-use Rattle.pm_wide.proofs.Congruence.{fewer_places}
-use Rattle.pm_wide.proofs.Words.{same_word, word_congruent, word-below, word-value, value-word, value_in_range, bounds, within}
+use Rattle.pm_wide.proofs.Words.{same_word, word-below, word-value, value-word, value_in_range, bounds, within}
 use Rattle.pm_wide.proofs.Residues.{ones}
+use Rattle.cond_eval.proofs.WordLemmas.{lower}
 use Rattle.cond_eval.specs.Words.{numbers, read}
 
 pub halves : (w : ℕ) → 0 < w → 2 ^ w ≡ 2 ^ (w - 1) + 2 ^ (w - 1)
@@ -55,9 +55,6 @@ filled p a some h k l =
 
 -- ---- exact results
 
-pub lower_word : (u : Bool) (p : ℕ) (z : ℤ) → p ≤ 128 → word_of (numbers u 128) z % 2 ^ p ≡ word_of (numbers u p) z
-lower_word u p z h = same_word (numbers u p) (pos (word_of (numbers u 128) z)) z (fewer_places p 128 _ _ h (word_congruent (numbers u 128) z))
-
 -- a number in the range of a precision is in that of 128 bits
 wider : (u : Bool) (p : ℕ) (z : ℤ) → p ≤ 128 → IsTrue (in_range (numbers u p) z) → IsTrue (in_range (numbers u 128) z)
 wider true p z h k = let b = bounds (numbers true p) z k in within (numbers true 128) z b.0 (omega (arith, ints, b.1, pow_mono h, pow_pos p))
@@ -77,7 +74,7 @@ outside_all u p z h = by (in_range (numbers u p) z) (in_range (numbers u 128) z)
     by false large w e = refl
 
 pub settled_word : (u : Bool) (p : ℕ) (z : ℤ) (n w : ℕ) → p ≤ 128 → w ≡ n % 2 ^ p → n ≡ word_of (numbers u 128) z → w ≡ word_of (numbers u p) z
-settled_word u p z n w h k e = k ∙ ap (λ x. x % 2 ^ p) e ∙ lower_word u p z h
+settled_word u p z n w h k e = k ∙ ap (λ x. x % 2 ^ p) e ∙ lower p z h
 
 pub in_all : (u : Bool) (z : ℤ) → not (in_range (numbers u 128) z) ≡ false → IsTrue (in_range (numbers u 128) z)
 in_all u z e = by (in_range (numbers u 128) z) e

@@ -1,5 +1,5 @@
--- The values of calls, one line a call, by what their arguments are. A call has no value on arguments
--- for which there is no line.
+-- The values of calls, one line a call, by what their arguments are. A call has no value on
+-- arguments for which there is no line.
 use Rattle.std.specs.Prelude.{ℕ, ◌-◌, ◌/◌, ◌^◌, ◌==◌, ◌&&◌, Bool, true, false, not, if◌then◌else◌, ℤ, pos, negsuc, neg_ℤ, ◌+ℤ◌, ◌-ℤ◌, ◌*ℤ◌, bit_and, bit_or, bit_xor, count_ones, List, [], ◌∷◌, Option, Some, None}
 use Rattle.std.specs.Int.{int_div_euclid, int_signum}
 use Rattle.std.specs.Int.RustNames.{int_lt, int_le, unsigned_abs}
@@ -9,19 +9,22 @@ use Rattle.pd_ast.specs.declared.call.Call.TheVariants.{Holds, TreeType, TypePre
 use Rattle.pd_ast.specs.Predicates.{holds_of}
 use Rattle.pm_wide.specs.declared.operand.Operand.{Operand}
 use Rattle.pm_wide.specs.declared.operand.Operand.TheVariants.{Name, Const}
+use Rattle.pm_wide.specs.Operations.{shifts}
 use Rattle.pm_wide.specs.Operands.{type_of_operand}
 use Rattle.pm_wide.specs.Residues.{residue}
 use Rattle.pm_wide.specs.Types.{Ty, least, greatest, same_type, value}
 use Rattle.cond_eval.specs.declared.pair.Pair.{Pair}
 use Rattle.cond_eval.specs.declared.value.CValue.{CValue}
-use Rattle.cond_eval.specs.declared.value.CValue.TheVariants.{Truth, Int, TypeRef, Oper, WideRef, Sign, CodeRef}
+use Rattle.cond_eval.specs.declared.value.CValue.TheVariants.{Truth, Int, TypeRef, Oper, WideRef, Sign}
 use Rattle.cond_eval.specs.Environments.{is_single}
-use Rattle.cond_eval.specs.Values.{truth, whole, wide, constant, words_of}
-use Rattle.cond_eval.specs.Words.{read, exactly, clz_of, ctz_of}
+use Rattle.cond_eval.specs.Values.{truth, wide, constant, on_two, on_three, words_of}
+use Rattle.cond_eval.specs.Words.{numbers, read, clz_of, ctz_of}
 
 -- the type of that width and sign; `_Bool` has no signed one
 abbrev pub with_sign : Bool → Ty → Option CValue
-with_sign unsigned ty = if not unsigned && (ty.width == 1) then None else Some (TypeRef (record { width = ty.width; unsigned = unsigned }))
+with_sign unsigned ty =
+    if not unsigned && (ty.width == 1) then None
+    else Some (TypeRef (record { width = ty.width; unsigned = unsigned }))
 
 -- of a type
 abbrev pub of_type : Call → Ty → Option CValue
@@ -144,7 +147,7 @@ is_shift _ = false
 abbrev pub of_word_number : Call → ℕ → ℕ → ℤ → Option CValue
 of_word_number call p a n =
     if is_shift call then
-    (if int_le (pos 0) n && int_lt n (pos p) then shifted call p a (unsigned_abs n) else None)
+    (if shifts (numbers true p) n then shifted call p a (unsigned_abs n) else None)
     else of_words call (record { precision = p; left = a; right = residue p n })
 
 -- one argument
@@ -173,6 +176,6 @@ of_three call a b _ = None
 -- a call on its arguments' values: none where one has none
 abbrev pub call_value : Call → List (ℕ × ℕ) → List (Option CValue) → Option CValue
 call_value call uses (a ∷ []) = option_and_then (of_one call uses) a
-call_value call uses (a ∷ b ∷ []) = option_and_then (λ x. option_and_then (of_two call x) b) a
-call_value call uses (a ∷ b ∷ c ∷ []) = option_and_then (λ x. option_and_then (λ y. option_and_then (of_three call x y) c) b) a
+call_value call uses (a ∷ b ∷ []) = on_two (of_two call) a b
+call_value call uses (a ∷ b ∷ c ∷ []) = on_three (of_three call) a b c
 call_value call uses _ = None

@@ -10,7 +10,7 @@ use Rattle.pm_ops.specs.Codes.{same_code}
 use Rattle.pm_wide.specs.Operations.{int_same}
 use Rattle.pm_wide.specs.Types.{same_type}
 use Rattle.cond_eval.specs.declared.value.CValue.{CValue}
-use Rattle.cond_eval.specs.declared.value.CValue.TheVariants.{Truth, Int, TypeRef, Oper, WideRef, Sign, CodeRef}
+use Rattle.cond_eval.specs.declared.value.CValue.TheVariants.{Truth, Int, TypeRef, WideRef, Sign, CodeRef}
 use Rattle.cond_eval.specs.Values.{truth, whole, wide, words_of}
 
 -- one operand
@@ -35,7 +35,8 @@ unary_value Negate a = negative_value a
 -- sums, differences and products, of whole numbers or of words
 abbrev pub arithmetic : (ℤ → ℤ → ℤ) → CValue → CValue → Option CValue
 arithmetic f (Int m) (Int n) = whole (f m n)
-arithmetic f a b = option_and_then (λ w. wide w.precision (f (pos w.left) (pos w.right))) (words_of a b)
+arithmetic f a b =
+    option_and_then (λ w. wide w.precision (f (pos w.left) (pos w.right))) (words_of a b)
 
 -- bits of two words of one precision
 abbrev pub bitwise : (ℕ → ℕ → ℕ) → CValue → CValue → Option CValue

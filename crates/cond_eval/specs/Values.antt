@@ -1,5 +1,6 @@
 -- Values of C text.
 use Rattle.std.specs.Prelude.{ℕ, ◌<◌, ◌≤◌, ◌^◌, ◌==◌, Bool, if◌then◌else◌, ℤ, Option, Some, None, ⊤}
+use Rattle.std.specs.Option.{option_and_then}
 use Rattle.pd_ast.specs.declared.c_text.CType.{CType}
 use Rattle.pd_ast.specs.declared.c_text.CType.TheVariants as static
 use Rattle.pm_wide.specs.declared.operand.Operand.TheVariants.{Const}
@@ -19,7 +20,7 @@ type_of_value (WideRef precision bits) = static.WideRef
 type_of_value (Sign unsigned) = static.Sign
 type_of_value (CodeRef code) = static.CodeRef
 
--- a value of that static type
+-- static types by number
 abbrev pub type_number : CType → ℕ
 type_number static.Truth = 0
 type_number static.Int = 1
@@ -29,6 +30,7 @@ type_number static.WideRef = 4
 type_number static.Sign = 5
 type_number static.CodeRef = 6
 
+-- a value, where it has that static type
 abbrev pub of_static_type : CType → CValue → Option CValue
 of_static_type ty v = if type_number ty == type_number (type_of_value v) then Some v else None
 
@@ -44,7 +46,9 @@ IsValue (CodeRef code) = ⊤
 
 -- the same of two words of one precision
 abbrev pub IsPair : Pair → Type 0
-IsPair pair = (0 < pair.precision) × (pair.precision ≤ 128) × (pair.left < 2 ^ pair.precision) × (pair.right < 2 ^ pair.precision)
+IsPair pair =
+    (0 < pair.precision) × (pair.precision ≤ 128)
+    × (pair.left < 2 ^ pair.precision) × (pair.right < 2 ^ pair.precision)
 
 -- a truth
 abbrev pub truth : Bool → Option CValue
@@ -62,10 +66,20 @@ wide precision z = Some (WideRef precision (residue precision z))
 abbrev pub constant : Ty → ℤ → Option CValue
 constant ty z = Some (Oper (Const (word ty z)))
 
--- two words of one precision: a whole number beside a word is reduced to its precision, and words of
--- unequal precision don't go together
+-- what two values give that are there, and three
+abbrev pub on_two : {C : Type 0} → (CValue → CValue → Option C)
+    → Option CValue → Option CValue → Option C
+on_two f a b = option_and_then (λ x. option_and_then (f x) b) a
+
+abbrev pub on_three : {C : Type 0} → (CValue → CValue → CValue → Option C)
+    → Option CValue → Option CValue → Option CValue → Option C
+on_three f a b c = option_and_then (λ x. on_two (f x) b c) a
+
+-- two words of one precision: a whole number beside a word is reduced to its precision, and words
+-- of unequal precision don't go together
 abbrev pub words_of : CValue → CValue → Option Pair
-words_of (WideRef p a) (WideRef q b) = if p == q then Some (record { precision = p; left = a; right = b }) else None
+words_of (WideRef p a) (WideRef q b) =
+    if p == q then Some (record { precision = p; left = a; right = b }) else None
 words_of (WideRef p a) (Int n) = Some (record { precision = p; left = a; right = residue p n })
 words_of (Int n) (WideRef p b) = Some (record { precision = p; left = residue p n; right = b })
 words_of a b = None

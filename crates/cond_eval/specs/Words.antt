@@ -13,9 +13,11 @@ read unsigned precision bits = value_of (numbers unsigned precision) bits
 
 -- the word of a whole number, and whether the number is outside the range
 abbrev pub exactly : Bool → ℕ → ℤ → ℕ × Bool
-exactly unsigned precision z = (word_of (numbers unsigned precision) z, not (in_range (numbers unsigned precision) z))
+exactly unsigned precision z =
+    let these = numbers unsigned precision in (word_of these z, not (in_range these z))
 
--- how many zeros stand above the highest bit that is set, and below the lowest one: the precision for 0
+-- how many zeros stand above the highest bit that is set, and below the lowest one: the precision
+-- for 0
 abbrev pub clz_of : ℕ → ℕ → ℕ
 clz_of precision bits = count_leading_zeros precision bits
 

@@ -1,14 +1,11 @@
 //! Operators and calls on values that may be absent.
 ghost use Rattle.std.specs.Prelude.{◌≡◌, [], ◌∷◌, IfSome, Option, None, false};
-ghost use Rattle.std.specs.Option.{option_map, option_and_then};
-ghost use Rattle.pd_ast.specs.Operators.{unary_named};
+ghost use Rattle.std.specs.Option.{option_and_then};
 ghost use Rattle.cond_eval.specs.declared.value.CValue.{CValue};
-ghost use Rattle.cond_eval.specs.declared.value.CValue.TheVariants.{Oper};
 ghost use Rattle.cond_eval.specs.Calls.{call_value, of_two, of_three};
-ghost use Rattle.cond_eval.specs.CValues.{between, code_test, truth_in};
-ghost use Rattle.cond_eval.specs.Environments.{named};
+ghost use Rattle.cond_eval.specs.CValues.{before, between, captured, code_test, truth_in};
 ghost use Rattle.cond_eval.specs.Operators.{and_value, or_value, unary_value, binary_value};
-ghost use Rattle.cond_eval.specs.Values.{of_static_type, IsValue};
+ghost use Rattle.cond_eval.specs.Values.{of_static_type, on_two, on_three, IsValue};
 
 use crate::environment::CEnv;
 use crate::value::CValue;
@@ -40,7 +37,7 @@ pub fn truth_of(value: &Option<CValue>) -> Option<bool>
 
 /// The operand of a capture.
 pub fn capture(name: &Text, env: &CEnv) -> Option<CValue>
-    ensures value { result ≡ option_map (λ operand. Oper operand) (named env.now.captures name.now) }
+    ensures value { result ≡ captured env.now name.now }
     ensures is_value { IfSome result IsValue }
 {
     match env.capture(name) {
@@ -52,7 +49,7 @@ pub fn capture(name: &Text, env: &CEnv) -> Option<CValue>
 /// The operator of that name before a value.
 pub fn operator_before(name: &Text, a: Option<CValue>) -> Option<CValue>
     requires { IfSome a IsValue }
-    ensures value { result ≡ option_and_then (λ operator. option_and_then (unary_value operator) a) (unary_named name.now) }
+    ensures value { result ≡ before name.now a }
     ensures is_value { IfSome result IsValue }
 {
     match UnaryOperator::from_name(name.bytes()) {
@@ -76,7 +73,8 @@ fn operator_on(operator: UnaryOperator, a: Option<CValue>) -> Option<CValue>
 /// Whether the value of the operator of that name depends on the right operand, where the left one
 /// has this value.
 pub fn needs_right(name: &Text, left: &Option<CValue>) -> bool
-    ensures { result ≡ false → (right : Option CValue) → between name.now left.now right ≡ between name.now left.now None }
+    ensures { result ≡ false →
+        (right : Option CValue) → between name.now left.now right ≡ between name.now left.now None }
 {
     match BinaryOperator::from_name(name.bytes()) {
         Some(BinaryOperator::And) => truth_of(left) == Some(true),
@@ -131,7 +129,7 @@ fn or(left: Option<CValue>, right: Option<CValue>) -> Option<CValue>
 fn strictly(operator: BinaryOperator, left: Option<CValue>, right: Option<CValue>) -> Option<CValue>
     requires left_is_value { IfSome left IsValue }
     requires right_is_value { IfSome right IsValue }
-    ensures value { result ≡ option_and_then (λ a. option_and_then (binary_value operator a) right) left }
+    ensures value { result ≡ on_two (binary_value operator) left right }
     ensures is_value { IfSome result IsValue }
 {
     match (left, right) {
@@ -170,7 +168,7 @@ pub fn call_on_one(call: Call, a: Option<CValue>, env: &CEnv) -> Option<CValue>
 pub fn call_on_two(call: Call, a: Option<CValue>, b: Option<CValue>) -> Option<CValue>
     requires a_is_value { IfSome a IsValue }
     requires b_is_value { IfSome b IsValue }
-    ensures value { result ≡ option_and_then (λ x. option_and_then (of_two call x) b) a }
+    ensures value { result ≡ on_two (of_two call) a b }
     ensures is_value { IfSome result IsValue }
 {
     match (a, b) {
@@ -188,7 +186,7 @@ pub fn call_on_three(
 ) -> Option<CValue>
     requires a_is_value { IfSome a IsValue }
     requires b_is_value { IfSome b IsValue }
-    ensures value { result ≡ option_and_then (λ x. option_and_then (λ y. option_and_then (of_three call x y) c) b) a }
+    ensures value { result ≡ on_three (of_three call) a b c }
     ensures is_value { IfSome result IsValue }
 {
     match (a, b, c) {

@@ -1,12 +1,16 @@
 //! Calls on values, by what their arguments are.
-ghost use Rattle.std.specs.Prelude.{◌≡◌, ◌<◌, ◌≤◌, ◌^◌, ◌==◌, ◌&&◌, IsTrue, if◌then◌else◌, count_ones, pos, negsuc, IfSome};
+ghost use Rattle.std.specs.Prelude.{◌≡◌, ◌<◌, ◌≤◌, ◌^◌, ◌==◌, true, IsTrue, if◌then◌else◌, count_ones, pos, negsuc, IfSome};
 ghost use Rattle.std.specs.Int.{int_signum};
-ghost use Rattle.std.specs.Int.RustNames.{int_lt, int_le, unsigned_abs};
+ghost use Rattle.std.specs.Int.RustNames.{unsigned_abs};
 ghost use Rattle.std.specs.Option.{SomeIff};
+ghost use Rattle.pm_wide.specs.Operations.{shifts};
 ghost use Rattle.pm_wide.specs.Types.{value as value_of_word};
-ghost use Rattle.cond_eval.specs.Calls.{with_sign, of_type, sign_of, word_of_operand, of_operand, of_word, of_types, of_operand_types, of_number, of_type_word, of_words, of_read_words, shifted, of_word_number, of_one, of_two, of_three};
+ghost use Rattle.cond_eval.specs.Calls.{with_sign, of_type, sign_of, word_of_operand, of_operand};
+ghost use Rattle.cond_eval.specs.Calls.{of_word, of_types, of_operand_types, of_number};
+ghost use Rattle.cond_eval.specs.Calls.{of_type_word, of_words, of_read_words, shifted};
+ghost use Rattle.cond_eval.specs.Calls.{of_word_number, of_one, of_two, of_three};
 ghost use Rattle.cond_eval.specs.Values.{IsPair, IsValue};
-ghost use Rattle.cond_eval.specs.Words.{ctz_of};
+ghost use Rattle.cond_eval.specs.Words.{numbers, ctz_of};
 
 use crate::environment::CEnv;
 use crate::operators::same_type;
@@ -326,7 +330,8 @@ fn of_word_number(call: Call, precision: u8, bits: u128, number: i64) -> Option<
 /// The places to shift by, where they are from 0 to below the precision.
 fn places(precision: u8, number: i64) -> Option<u8>
     requires { precision ≤ 128 }
-    ensures { SomeIff result (IsTrue (int_le (pos 0) number && int_lt number (pos precision))) (unsigned_abs number) }
+    ensures { SomeIff result (IsTrue (shifts (numbers true precision) number))
+        (unsigned_abs number) }
 {
     let size = number.unsigned_abs();
     if number >= 0 && size < u64::from(precision) {

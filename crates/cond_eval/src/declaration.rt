@@ -1,8 +1,8 @@
 //! The locals that declarations add.
 ghost use Rattle.std.specs.Prelude.{◌≡◌, [], ◌∷◌, IfOk, IfSome};
 ghost use Rattle.std.specs.Option.{option_map};
-ghost use Rattle.cond_eval.specs.declared.value.CValue.TheVariants.{Truth, WideRef};
-ghost use Rattle.cond_eval.specs.Declarations.{after_one, locals_after, with_locals, IsFlagged};
+ghost use Rattle.cond_eval.specs.Declarations.{after_one, flag_and_word, locals_after};
+ghost use Rattle.cond_eval.specs.Declarations.{with_locals, IsFlagged};
 ghost use Rattle.cond_eval.specs.Environments.{AreValues};
 ghost use Rattle.cond_eval.specs.Values.{IsValue};
 
@@ -59,7 +59,8 @@ fn with_value(
 ) -> Result<Option<CEnv>, OutOfMemory>
     requires are_values { AreValues env.locals }
     requires is_value { IfSome value IsValue }
-    ensures value { IfOk result (λ after. after ≡ option_map (λ v. with_locals env ((name.now, v) ∷ [])) value) }
+    ensures value { IfOk result (λ after. after ≡
+        option_map (λ v. with_locals env ((name.now, v) ∷ [])) value) }
     ensures are_values { IfOk result (λ after. IfSome after (λ e. AreValues e.locals)) }
 {
     match value {
@@ -79,7 +80,7 @@ fn with_flag(
     requires are_values { AreValues env.locals }
     requires is_flagged { IfSome value IsFlagged }
     ensures value { IfOk result (λ after. after ≡
-        option_map (λ r. with_locals env ((flag.now, Truth r.overflow) ∷ (name.now, WideRef r.precision r.bits) ∷ [])) value) }
+        option_map (λ r. with_locals env (flag_and_word flag.now name.now r)) value) }
     ensures are_values { IfOk result (λ after. IfSome after (λ e. AreValues e.locals)) }
 {
     match value {

@@ -9,8 +9,8 @@ use pm_ops::{OutOfMemory, Text};
 use pm_wide::{IntType, Operand};
 use std::alloc::Global;
 
-/// What the names of C text stand for. The last local of a name counts, and so does the last capture
-/// and the last count.
+/// What the names of C text stand for. The last local of a name counts, and so does the last
+/// capture and the last count.
 #[derive(Debug, Drop)]
 pub struct CEnv {
     /// The operands of captures.

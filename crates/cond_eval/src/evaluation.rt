@@ -3,10 +3,7 @@
 //! What takes expressions apart never takes values apart: that is left to functions on values that
 //! may be absent.
 ghost use Rattle.std.specs.Prelude.{◌≡◌, IfSome, map};
-ghost use Rattle.std.specs.Option.{option_and_then};
-ghost use Rattle.pd_ast.specs.Calls.{call_named};
-ghost use Rattle.cond_eval.specs.Calls.{call_value};
-ghost use Rattle.cond_eval.specs.CValues.{c_value, node_value_of};
+ghost use Rattle.cond_eval.specs.CValues.{c_value, called, node_value_of};
 ghost use Rattle.cond_eval.specs.Environments.{AreValues};
 ghost use Rattle.cond_eval.specs.Values.{IsValue};
 
@@ -73,8 +70,7 @@ fn of_node(node: &CNode, env: &CEnv) -> Option<CValue>
 #[cycle(eval)]
 fn of_call(name: &Text, args: &[CExpr], env: &CEnv) -> Option<CValue>
     requires { AreValues env.now.locals }
-    ensures value { result ≡
-        option_and_then (λ call. call_value call env.now.uses (map (c_value env.now) args.now)) (call_named name.now) }
+    ensures value { result ≡ called env.now name.now (map (c_value env.now) args.now) }
     ensures is_value { IfSome result IsValue }
 {
     match Call::from_name(name.bytes()) {

@@ -1,11 +1,11 @@
 //! Calls with an overflow flag.
-ghost use Rattle.std.specs.Prelude.{◌≡◌, ◌<◌, ◌≤◌, ◌^◌, [], ◌∷◌, IfSome, map};
+ghost use Rattle.std.specs.Prelude.{◌≡◌, ◌<◌, ◌≤◌, ◌^◌, IfSome, map};
 ghost use Rattle.std.specs.Option.{option_and_then};
 ghost use Rattle.cond_eval.specs.CValues.{c_value};
-ghost use Rattle.cond_eval.specs.Declarations.{exact_call, exact_negative, flagged_call, flagged_one, flagged_three, flagged_value, IsFlagged};
+ghost use Rattle.cond_eval.specs.Declarations.{exact_call, exact_negative, flagged_named};
+ghost use Rattle.cond_eval.specs.Declarations.{flagged_one, flagged_three, flagged_value, IsFlagged};
 ghost use Rattle.cond_eval.specs.Environments.{AreValues};
-ghost use Rattle.cond_eval.specs.Values.{IsPair, IsValue};
-ghost use Rattle.pd_ast.specs.Calls.{call_named};
+ghost use Rattle.cond_eval.specs.Values.{on_three, IsPair, IsValue};
 
 use crate::environment::CEnv;
 use crate::evaluation::eval;
@@ -23,8 +23,8 @@ pub struct Flagged {
     pub overflow: bool,
 }
 
-/// The word and the flag of a call whose last argument, the flag's name, isn't among those that stand
-/// here.
+/// The word and the flag of a call whose last argument, the flag's name, isn't among those that
+/// stand here.
 pub fn flagged_value(expr: &CExpr, env: &CEnv) -> Option<Flagged>
     requires { AreValues env.now.locals }
     ensures value { result ≡ flagged_value env.now expr.now }
@@ -39,8 +39,7 @@ pub fn flagged_value(expr: &CExpr, env: &CEnv) -> Option<Flagged>
 /// The same, by the name and the arguments.
 fn of_call(name: &Text, args: &[CExpr], env: &CEnv) -> Option<Flagged>
     requires { AreValues env.now.locals }
-    ensures value { result ≡
-        option_and_then (λ call. flagged_call call (map (c_value env.now) args.now)) (call_named name.now) }
+    ensures value { result ≡ flagged_named name.now (map (c_value env.now) args.now) }
     ensures is_flagged { IfSome result IsFlagged }
 {
     match Call::from_name(name.bytes()) {
@@ -69,7 +68,7 @@ fn on_one(call: Call, a: Option<CValue>) -> Option<Flagged>
 fn on_three(call: Call, a: Option<CValue>, b: Option<CValue>, c: Option<CValue>) -> Option<Flagged>
     requires a_is_value { IfSome a IsValue }
     requires b_is_value { IfSome b IsValue }
-    ensures value { result ≡ option_and_then (λ x. option_and_then (λ y. option_and_then (flagged_three call x y) c) b) a }
+    ensures value { result ≡ on_three (flagged_three call) a b c }
     ensures is_flagged { IfSome result IsFlagged }
 {
     match (a, b, c) {

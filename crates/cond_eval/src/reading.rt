@@ -3,6 +3,7 @@
 ghost use Rattle.std.specs.Prelude.{◌≡◌, ◌<◌, ◌≤◌, ◌^◌, ℤ, pos, neg_ℤ, ◌+ℤ◌, ◌-ℤ◌, ◌*ℤ◌};
 ghost use Rattle.std.specs.Int.RustNames.{int_lt, int_le};
 ghost use Rattle.pm_wide.specs.Types.{least};
+ghost use Rattle.cond_eval.specs.Readings.{numbers_of, read_as, exactly_as};
 ghost use Rattle.cond_eval.specs.Words.{numbers, read, exactly};
 
 use crate::words::{lowest, power_of_two};
@@ -32,7 +33,7 @@ pub fn extended(reading: Reading, a: u128) -> u128
     requires some { 0 < reading.precision }
     requires precision { reading.precision ≤ 128 }
     requires word { a < 2 ^ reading.precision }
-    ensures { read reading.unsigned 128 result ≡ read reading.unsigned reading.precision a }
+    ensures { read reading.unsigned 128 result ≡ read_as reading a }
 {
     if reading.unsigned || a < power_of_two(reading.precision - 1) {
         a
@@ -47,7 +48,7 @@ fn rank(reading: Reading, a: u128) -> u128
     requires some { 0 < reading.precision }
     requires precision { reading.precision ≤ 128 }
     requires word { a < 2 ^ reading.precision }
-    ensures { pos result ≡ read reading.unsigned reading.precision a -ℤ least (numbers reading.unsigned reading.precision) }
+    ensures { pos result ≡ read_as reading a -ℤ least (numbers_of reading) }
 {
     let half = power_of_two(reading.precision - 1);
     if reading.unsigned {
@@ -65,7 +66,7 @@ pub fn is_below(reading: Reading, a: u128, b: u128) -> bool
     requires precision { reading.precision ≤ 128 }
     requires a_is_word { a < 2 ^ reading.precision }
     requires b_is_word { b < 2 ^ reading.precision }
-    ensures { result ≡ int_lt (read reading.unsigned reading.precision a) (read reading.unsigned reading.precision b) }
+    ensures { result ≡ int_lt (read_as reading a) (read_as reading b) }
 {
     rank(reading, a) < rank(reading, b)
 }
@@ -77,17 +78,17 @@ pub fn is_at_most(reading: Reading, a: u128, b: u128) -> bool
     requires precision { reading.precision ≤ 128 }
     requires a_is_word { a < 2 ^ reading.precision }
     requires b_is_word { b < 2 ^ reading.precision }
-    ensures { result ≡ int_le (read reading.unsigned reading.precision a) (read reading.unsigned reading.precision b) }
+    ensures { result ≡ int_le (read_as reading a) (read_as reading b) }
 {
     !is_below(reading, b, a)
 }
 
 /// The word of an exact result, and whether that is outside the range, from the same at 128 bits.
-#[tactic(auto, using(crate::proofs::ReadingLemmas::lower_word))]
 fn settled(reading: Reading, exact: (u128, bool)) -> (u128, bool)
     requires some { 0 < reading.precision }
     requires precision { reading.precision ≤ 128 }
-    ensures value { (z : ℤ) → exact ≡ exactly reading.unsigned 128 z → result ≡ exactly reading.unsigned reading.precision z }
+    ensures value { (z : ℤ) →
+        exact ≡ exactly reading.unsigned 128 z → result ≡ exactly_as reading z }
     ensures word { result.0 < 2 ^ reading.precision }
 {
     let (wide, outside) = exact;
@@ -101,7 +102,7 @@ pub fn exact_sum(reading: Reading, a: u128, b: u128) -> (u128, bool)
     requires precision { reading.precision ≤ 128 }
     requires a_is_word { a < 2 ^ reading.precision }
     requires b_is_word { b < 2 ^ reading.precision }
-    ensures value { result ≡ exactly reading.unsigned reading.precision (read reading.unsigned reading.precision a +ℤ read reading.unsigned reading.precision b) }
+    ensures value { result ≡ exactly_as reading (read_as reading a +ℤ read_as reading b) }
     ensures word { result.0 < 2 ^ reading.precision }
 {
     let a = extended(reading, a);
@@ -115,7 +116,7 @@ pub fn exact_difference(reading: Reading, a: u128, b: u128) -> (u128, bool)
     requires precision { reading.precision ≤ 128 }
     requires a_is_word { a < 2 ^ reading.precision }
     requires b_is_word { b < 2 ^ reading.precision }
-    ensures value { result ≡ exactly reading.unsigned reading.precision (read reading.unsigned reading.precision a -ℤ read reading.unsigned reading.precision b) }
+    ensures value { result ≡ exactly_as reading (read_as reading a -ℤ read_as reading b) }
     ensures word { result.0 < 2 ^ reading.precision }
 {
     let a = extended(reading, a);
@@ -129,7 +130,7 @@ pub fn exact_product(reading: Reading, a: u128, b: u128) -> (u128, bool)
     requires precision { reading.precision ≤ 128 }
     requires a_is_word { a < 2 ^ reading.precision }
     requires b_is_word { b < 2 ^ reading.precision }
-    ensures value { result ≡ exactly reading.unsigned reading.precision (read reading.unsigned reading.precision a *ℤ read reading.unsigned reading.precision b) }
+    ensures value { result ≡ exactly_as reading (read_as reading a *ℤ read_as reading b) }
     ensures word { result.0 < 2 ^ reading.precision }
 {
     let a = extended(reading, a);
@@ -142,7 +143,7 @@ pub fn exact_negative(reading: Reading, a: u128) -> (u128, bool)
     requires some { 0 < reading.precision }
     requires precision { reading.precision ≤ 128 }
     requires word { a < 2 ^ reading.precision }
-    ensures value { result ≡ exactly reading.unsigned reading.precision (neg_ℤ (read reading.unsigned reading.precision a)) }
+    ensures value { result ≡ exactly_as reading (neg_ℤ (read_as reading a)) }
     ensures word { result.0 < 2 ^ reading.precision }
 {
     let a = extended(reading, a);

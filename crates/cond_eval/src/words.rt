@@ -160,7 +160,8 @@ pub fn shifted_signed(precision: u8, a: u128, places: u8) -> u128
     requires precision { precision ≤ 128 }
     requires places { places < precision }
     requires word { a < 2 ^ precision }
-    ensures value { result ≡ residue precision (int_div_euclid (read false precision a) (pos (2 ^ places))) }
+    ensures value { result ≡
+        residue precision (int_div_euclid (read false precision a) (pos (2 ^ places))) }
     ensures word { result < 2 ^ precision }
 {
     if a < power_of_two(precision - 1) {
