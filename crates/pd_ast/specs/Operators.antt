@@ -22,7 +22,10 @@ unary_named name = find (λ one. bytes_eq (unary_name one) name) all_unary
 
 -- every one between two operands, and its spelling
 abbrev pub all_binary : List BinaryOperator
-all_binary = binary.Or ∷ binary.And ∷ binary.BitOr ∷ binary.BitXor ∷ binary.BitAnd ∷ binary.Eq ∷ binary.Ne ∷ binary.Lt ∷ binary.Le ∷ binary.Gt ∷ binary.Ge ∷ binary.Plus ∷ binary.Minus ∷ binary.Times ∷ []
+all_binary =
+    binary.Or ∷ binary.And ∷ binary.BitOr ∷ binary.BitXor ∷ binary.BitAnd
+    ∷ binary.Eq ∷ binary.Ne ∷ binary.Lt ∷ binary.Le ∷ binary.Gt ∷ binary.Ge
+    ∷ binary.Plus ∷ binary.Minus ∷ binary.Times ∷ []
 
 abbrev pub binary_name : BinaryOperator → Name
 binary_name binary.Or = codes "||"

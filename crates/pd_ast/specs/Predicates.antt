@@ -1,5 +1,5 @@
--- What each predicate holds of: of a constant by its word, so in one bit the constant 1 is one,
--- true, all ones and a power of two at once, and the least value of a signed type is a power of two.
+-- What each predicate holds of. Constants go by the word: in one bit the constant 1 is one, true, all
+-- ones and a power of two at once, and the least value of a signed type is a power of two.
 use Rattle.std.specs.Prelude.{ℕ, ◌-◌, ◌^◌, ◌==◌, Bool, true, false, count_ones}
 use Rattle.pm_ops.specs.declared.predicate.Pred.{Pred}
 use Rattle.pm_ops.specs.declared.predicate.Pred.TheVariants.{Zero, One, AllOnes, MinusOne, Pow2, True, Cst, Ssa}

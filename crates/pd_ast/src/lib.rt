@@ -7,6 +7,7 @@
 mod c_text;
 mod call;
 mod form;
+pub mod laws;
 mod operator;
 mod pattern;
 mod predicate;
