@@ -15,7 +15,7 @@ use Rattle.ring_forms.specs.declared.atom.Atom.TheVariants.{Name, Operation}
 use Rattle.ring_forms.specs.declared.atom.AtomOperand.{AtomOperand}
 use Rattle.ring_forms.specs.declared.form.Part.{Part}
 use Rattle.ring_forms.specs.Forms.{part_of, placed, with_part, with_product, constant_form, sum_form, negated_form, with_atom, joined_atoms, part_times, form_times}
-use Rattle.ring_forms.specs.RingForms.{unary_form, binary_form}
+use Rattle.ring_forms.specs.TableForms.{unary_form, binary_form}
 use Rattle.ring_forms.proofs.FormValues.{atoms_value, form_value}
 
 -- ---- numbers below n

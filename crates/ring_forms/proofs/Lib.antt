@@ -1,7 +1,15 @@
+pub mod Agreement
 pub mod AtomLemmas
+pub mod CleanForms
+pub mod FixedTables
 pub mod FormBounds
 pub mod FormLemmas
+pub mod FormLimits
+pub mod FormTotals
 pub mod FormValues
+pub mod Products
+pub mod Readings
 pub mod RingLaw
+pub mod SameAtoms
 pub mod Tables
 pub mod TermLemmas

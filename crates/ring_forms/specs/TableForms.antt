@@ -1,4 +1,4 @@
--- The ring form of a term modulo 2 ^ m.
+-- How the code reads a term: its form goes by numbers of atoms in a table, to which it adds.
 use Rattle.std.specs.Prelude.{ℕ, ◌≡◌, ◌^◌, nat_lt, nat_le, Bool, true, false, if◌then◌else◌, Option, Some, None, List, [], ◌∷◌, pos, negsuc, is_some, unwrap_or}
 use Rattle.pm_ops.specs.declared.code.Code.{Code}
 use Rattle.pm_ops.specs.declared.code.Code.TheVariants.{Convert, Plus, Minus, Mult, Negate, BitNot, Lshift}
@@ -9,33 +9,8 @@ use Rattle.ring_forms.specs.declared.atom.Atom.{Atom}
 use Rattle.ring_forms.specs.declared.atom.Atom.TheVariants.{Name, Operation}
 use Rattle.ring_forms.specs.declared.atom.AtomOperand.{AtomOperand}
 use Rattle.ring_forms.specs.Atoms.{atom_number, with_new_atom}
+use Rattle.ring_forms.specs.RingForms.{goes_by_parts, constant_places}
 use Rattle.ring_forms.specs.Forms.{constant_form, atom_form, sum_form, negated_form, product_form, within_limits}
-
--- a constant whose word is below a width: such a word is its own value
-abbrev pub small_constant : ℕ → Tree → Option ℕ
-small_constant width (constant word) = if nat_lt word.bits width then Some word.bits else None
-small_constant width _ = None
-
--- the places of a shift by a constant in range
-abbrev pub constant_places : Ty → Trees → Option ℕ
-constant_places ty (cons a (cons b nil)) = small_constant ty.width b
-constant_places ty _ = None
-
--- a conversion whose operand has at least m bits
-abbrev pub has_bits : ℕ → Trees → Bool
-has_bits m (cons a nil) = nat_le m (type_of a).width
-has_bits m _ = false
-
--- whether the form of an operation is made of the forms of its operands
-abbrev pub goes_by_parts : ℕ → Code → Ty → Trees → Bool
-goes_by_parts m Plus ty args = true
-goes_by_parts m Minus ty args = true
-goes_by_parts m Mult ty args = true
-goes_by_parts m Negate ty args = true
-goes_by_parts m BitNot ty args = true
-goes_by_parts m Convert ty args = has_bits m args
-goes_by_parts m Lshift ty args = is_some (constant_places ty args)
-goes_by_parts m _ ty args = false
 
 -- the form of an operation of the forms of its operands, before limits: `~x` is `-1 - x`, and a
 -- shift by a constant a product
@@ -112,7 +87,7 @@ abbrev pub HaveOneForm : Option (List Part × List Atom) → (List Atom → Opti
 HaveOneForm None second = ⊥
 HaveOneForm (Some r) second = (table : List Atom) × (second r.1 ≡ Some (r.0, table))
 
-abbrev pub AreRingEqual : Tree → Tree → Type 0
-AreRingEqual left right =
+abbrev pub AreEqualOverTable : Tree → Tree → Type 0
+AreEqualOverTable left right =
     (type_of left ≡ type_of right)
     × HaveOneForm (ring_form (type_of left).width left []) (ring_form (type_of right).width right)

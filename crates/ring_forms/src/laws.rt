@@ -1,6 +1,7 @@
 //! What ring forms imply, for every term. The function does nothing: its contract is the law.
 ghost use Rattle.std.specs.Prelude.{◌≡◌, ℕ, Some};
-ghost use Rattle.pm_wide.specs.Types.{Ty, Word, IsType, IsWord};
+ghost use Rattle.pm_wide.specs.Types.{Ty, Word};
+ghost use Rattle.pm_term.specs.Environments.{GivesWords};
 ghost use Rattle.pm_term.specs.Terms.{term_value};
 ghost use Rattle.pm_term.specs.Trees.{Tree, IsWellTyped};
 ghost use Rattle.ring_forms.specs.RingForms.{AreRingEqual};
@@ -8,8 +9,6 @@ ghost use Rattle.ring_forms.specs.RingForms.{AreRingEqual};
 /// Terms of one ring form have one word wherever both have a value.
 pub fn equal_forms_give_equal_words()
     ensures { (words : ℕ → Ty → Word) (left right : Tree) (r s : Word) →
-        ((version : ℕ) (ty : Ty) → IsType ty →
-        ((words version ty).ty ≡ ty) × IsWord (words version ty)) →
-        IsWellTyped left → IsWellTyped right → AreRingEqual left right →
+        GivesWords words → IsWellTyped left → IsWellTyped right → AreRingEqual left right →
         term_value words left ≡ Some r → term_value words right ≡ Some s → r ≡ s }
 {}
