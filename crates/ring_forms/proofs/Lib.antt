@@ -8,6 +8,7 @@ pub mod FormLimits
 pub mod FormTotals
 pub mod FormValues
 pub mod Products
+pub mod RankOrder
 pub mod Readings
 pub mod RingLaw
 pub mod SameAtoms

@@ -1,6 +1,9 @@
 pub mod Atoms
+pub mod ExactForms
+pub mod ExactTables
 pub mod Forms
 pub mod Places
+pub mod Polynomials
 pub mod RingForms
 pub mod Sums
 pub mod TableForms

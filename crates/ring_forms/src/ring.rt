@@ -101,7 +101,7 @@ fn forms_of(
 
 /// The types of these terms with their forms at full width.
 #[cycle(form)]
-fn operands_of(
+pub(crate) fn operands_of(
     alloc: Global,
     terms: &[Term],
     table: &mut Items<Atom>,
@@ -132,7 +132,7 @@ fn type_of(term: &Term) -> IntType
 }
 
 /// The form of an operation of the forms of its operands.
-fn combined(
+pub(crate) fn combined(
     alloc: Global,
     code: Code,
     places: u8,
