@@ -1,12 +1,14 @@
 -- Tests of factors that agree on the factors of sums: the sums then have the same coefficients and
 -- forms by either.
 use Rattle.std.proofs.Common.{◌≡◌, ℕ, suc, ◌==◌, Bool, true, false, not, cond, ◌&&◌, ◌||◌, List, [], ◌∷◌, ◌++◌, map, length, refl, ap, ◌∙◌}
-use Rattle.std.specs.Prelude.{ℤ, pos, ◌+ℤ◌, ◌*ℤ◌, nat_le}
+use Rattle.std.specs.Prelude.{ℤ, pos, ◌+ℤ◌, ◌*ℤ◌, ◌^◌, nat_le, nat_lt}
+use Rattle.std.specs.Int.RustNames.{unsigned_abs}
 use Rattle.std.specs.List.{list_all, list_any, filter, AllByRecursion}
 use Rattle.std.specs.Set.{unique_keys, is_member}
 use Rattle.pm_wide.specs.Residues.{residue}
 use Rattle.pm_term.specs.Trees.{Tree}
 use Rattle.ring_forms.specs.Sums.{Sum, times_in, same_product, coefficient, negated, scaled, product}
+use Rattle.ring_forms.specs.ExactForms.{exact_monomials, is_exactly_within}
 use Rattle.ring_forms.specs.RingForms.{form_coefficient, products, same_form, monomials, is_within}
 
 -- ---- what holds of all of a list
@@ -105,3 +107,16 @@ module _ (P : Tree → Type 0) (s t : Tree → Tree → Bool) (agree : (a b : Tr
       let is = monomials_agree m f h in
       (λ i. nat_le (length (few i)) 64 && list_all (λ p. nat_le (length p) 8) (monomials s m f))
       ∙ (λ i. nat_le (length (unique_keys (same_product t) (is i))) 64 && list_all (λ p. nat_le (length p) 8) (is i))
+
+  exact_monomials_agree : (f : Sum Tree) → Factors P f → exact_monomials s f ≡ exact_monomials t f
+  exact_monomials_agree f h =
+      filter_agree AllP (λ p. not (unsigned_abs (coefficient s p f) == 0)) (λ p. not (unsigned_abs (coefficient t p f) == 0)) (λ p k. (λ j. not (unsigned_abs (coefficient_agree p f k h j) == 0))) (products f)
+      (each_product P f h)
+
+  pub exactly_within_agree : (f : Sum Tree) → Factors P f → is_exactly_within s f ≡ is_exactly_within t f
+  exactly_within_agree f h =
+      let few = unique_agree AllP (same_product s) (same_product t) product_agree (exact_monomials s f) (all_filter AllP (λ p. not (unsigned_abs (coefficient s p f) == 0)) (products f) (each_product P f h)) in
+      let is = exact_monomials_agree f h in
+      let small = list_all_agree AllP (λ p. nat_lt (unsigned_abs (coefficient s p f)) (2 ^ 56)) (λ p. nat_lt (unsigned_abs (coefficient t p f)) (2 ^ 56)) (λ p k. (λ j. nat_lt (unsigned_abs (coefficient_agree p f k h j)) (2 ^ 56))) (products f) (each_product P f h) in
+      (λ i. nat_le (length (few i)) 64 && list_all (λ p. nat_le (length p) 8) (exact_monomials s f) && small i)
+      ∙ (λ i. nat_le (length (unique_keys (same_product t) (is i))) 64 && list_all (λ p. nat_le (length p) 8) (is i) && list_all (λ p. nat_lt (unsigned_abs (coefficient t p f)) (2 ^ 56)) (products f))

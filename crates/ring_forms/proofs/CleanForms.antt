@@ -205,7 +205,7 @@ pub before_none : (k : List ℕ) (f : List Part) → Before k f → at_key k f �
 before_none k [] h = refl
 before_none k (p ∷ ps) h = passed k p (at_key k ps) (texts_ties k p.atoms ∙ ap is_eq h.0) ∙ before_none k ps h.1
 
-own : (k : List ℕ) (p : Part) (ps : List Part) → k ≡ p.atoms → Before p.atoms ps → at_key k (p ∷ ps) ≡ pos p.coefficient
+pub own : (k : List ℕ) (p : Part) (ps : List Part) → k ≡ p.atoms → Before p.atoms ps → at_key k (p ∷ ps) ≡ pos p.coefficient
 own k p ps e h =
     met k p (at_key k ps) (texts_ties k p.atoms ∙ ap (λ x. is_eq (slice_cmp nat_cmp x p.atoms)) e ∙ tied p.atoms)
     ∙ ap (λ x. pos p.coefficient +ℤ x) (before_none k ps (subst (λ x. Before x ps) (sym e) h)) ∙ ending (pos p.coefficient)

@@ -19,7 +19,6 @@ use Rattle.pm_wide.proofs.Congruence.{turned, joined}
 use Rattle.pm_wide.proofs.Residues.{residue_congruent}
 use Rattle.pm_wide.proofs.Words.{same_word}
 use Rattle.pm_term.specs.Trees.{Tree}
-use Rattle.ring_forms.specs.declared.atom.Atom.{Atom}
 use Rattle.ring_forms.specs.declared.form.Part.{Part}
 use Rattle.ring_forms.specs.Atoms.{same_parts}
 use Rattle.ring_forms.specs.Forms.{with_atom, joined_atoms, within_limits}
@@ -27,7 +26,7 @@ use Rattle.ring_forms.specs.RingForms.{form_coefficient, products, same_form, mo
 use Rattle.ring_forms.specs.Sums.{Sum, same_product, coefficient}
 use Rattle.ring_forms.proofs.AtomLemmas.{form_decides}
 use Rattle.ring_forms.proofs.CleanForms.{Clean, products_of, strictly_sorted, hit, at_key, one_form, stands, zero_residue}
-use Rattle.ring_forms.proofs.FixedTables.{number, total, numbers, StandsFor}
+use Rattle.ring_forms.proofs.FixedTables.{total, numbers, StandsFor}
 use Rattle.ring_forms.proofs.FormLemmas.{same_numbers, numbers_same}
 use Rattle.ring_forms.proofs.Products.{by_number, same_key, sorted}
 
@@ -37,17 +36,17 @@ one_residue m a b h = same_word (record { width = m; unsigned = true }) a b h
 congruent_residues : (m : ℕ) (a b : ℤ) → residue m a ≡ residue m b → Congruent m a b
 congruent_residues m a b e = joined m a (pos (residue m b)) b (subst (λ n. Congruent m a (pos n)) e (turned m _ _ (residue_congruent m a))) (residue_congruent m b)
 
-module _ (table : List Atom) where
+module _ (number : Tree → ℕ) where
   abbrev pub same_numbered : Tree → Tree → Bool
-  same_numbered = by_number (number table)
+  same_numbered = by_number number
 
   -- the coefficient of a product that goes by numbers
-  abbrev numbered : List ℕ → Sum Tree → ℤ
-  numbered k s = total (λ p. hit k (numbers table p)) s
+  abbrev pub numbered : List ℕ → Sum Tree → ℤ
+  numbered k s = total (λ p. hit k (numbers number p)) s
 
-  coefficient_numbered : (p : List Tree) (s : Sum Tree) → coefficient same_numbered p s ≡ numbered (numbers table p) s
+  pub coefficient_numbered : (p : List Tree) (s : Sum Tree) → coefficient same_numbered p s ≡ numbered (numbers number p) s
   coefficient_numbered p [] = refl
-  coefficient_numbered p (e ∷ es) = λ i. counted (same_product same_numbered p e.1) (pointwise nat_eq (numbers table p) (numbers table e.1)) e.0 (same_key (number table) p e.1) i +ℤ coefficient_numbered p es i
+  coefficient_numbered p (e ∷ es) = λ i. counted (same_product same_numbered p e.1) (pointwise nat_eq (numbers number p) (numbers number e.1)) e.0 (same_key number p e.1) i +ℤ coefficient_numbered p es i
     where
       times : (t : Bool) (c : ℤ) → cond t c (pos 0) ≡ c *ℤ cond t (pos 1) (pos 0)
       times true c = omega (arith, ints)
@@ -57,12 +56,12 @@ module _ (table : List Atom) where
       counted s t c e = ap (λ b. cond b c (pos 0)) e ∙ times t c
 
   -- the keys of a sum's products
-  abbrev keys : Sum Tree → List (List ℕ)
-  keys s = map (numbers table) (products s)
+  abbrev pub keys : Sum Tree → List (List ℕ)
+  keys s = map (numbers number) (products s)
 
-  unmet : (k : List ℕ) (s : Sum Tree) → list_any (pointwise nat_eq k) (keys s) ≡ false → numbered k s ≡ pos 0
+  pub unmet : (k : List ℕ) (s : Sum Tree) → list_any (pointwise nat_eq k) (keys s) ≡ false → numbered k s ≡ pos 0
   unmet k [] h = refl
-  unmet k (e ∷ es) h = by (pointwise nat_eq k (numbers table e.1)) h (unmet k es)
+  unmet k (e ∷ es) h = by (pointwise nat_eq k (numbers number e.1)) h (unmet k es)
     where
       nothing : (c x : ℤ) → x ≡ pos 0 → c *ℤ pos 0 +ℤ x ≡ pos 0
       nothing c x z = omega (arith, ints, z)
@@ -73,7 +72,7 @@ module _ (table : List Atom) where
       by false g later = nothing e.0 (numbered k es) (later g)
 
   module _ (m : ℕ) where
-    form_numbered : (p : List Tree) (s : Sum Tree) → form_coefficient same_numbered m p s ≡ residue m (numbered (numbers table p) s)
+    form_numbered : (p : List Tree) (s : Sum Tree) → form_coefficient same_numbered m p s ≡ residue m (numbered (numbers number p) s)
     form_numbered p s = ap (residue m) (coefficient_numbered p s)
 
     -- ---- one form
@@ -84,10 +83,10 @@ module _ (table : List Atom) where
     same_form_keys : (s t : Sum Tree) → same_form same_numbered m s t ≡ (list_all (agrees s t) (keys s) && list_all (agrees s t) (keys t))
     same_form_keys s t =
         (λ i. list_all (λ p. form_numbered p s i == form_numbered p t i) (products s ++ products t))
-        ∙ list_all-append (λ p. residue m (numbered (numbers table p) s) == residue m (numbered (numbers table p) t)) (products s) (products t)
-        ∙ (λ i. sym (list_all-map (agrees s t) (numbers table) (products s)) i && sym (list_all-map (agrees s t) (numbers table) (products t)) i)
+        ∙ list_all-append (λ p. residue m (numbered (numbers number p) s) == residue m (numbered (numbers number p) t)) (products s) (products t)
+        ∙ (λ i. sym (list_all-map (agrees s t) (numbers number) (products s)) i && sym (list_all-map (agrees s t) (numbers number) (products t)) i)
 
-    found : (test : List ℕ → Bool) (ks : List (List ℕ)) (k : List ℕ) → list_all test ks ≡ true → list_any (pointwise nat_eq k) ks ≡ true → test k ≡ true
+    pub found : (test : List ℕ → Bool) (ks : List (List ℕ)) (k : List ℕ) → list_all test ks ≡ true → list_any (pointwise nat_eq k) ks ≡ true → test k ≡ true
     found test [] k h g = cc
     found test (q ∷ qs) k h g = let both = and_parts (test q) (list_all test qs) h in by (pointwise nat_eq k q) refl g both.0 (found test qs k both.1)
       where
@@ -106,8 +105,8 @@ module _ (table : List Atom) where
         by false true e f = equal (found (agrees s t) (keys t) k g f)
         by false false e f = ap (residue m) (unmet k s e ∙ sym (unmet k t f))
 
-    module _ (f : List Part) (s : Sum Tree) (h : StandsFor table m f s) where
-      same_residue : (k : List ℕ) → residue m (at_key k f) ≡ residue m (numbered k s)
+    module _ (f : List Part) (s : Sum Tree) (h : StandsFor number m f s) where
+      pub same_residue : (k : List ℕ) → residue m (at_key k f) ≡ residue m (numbered k s)
       same_residue k = one_residue m (at_key k f) (numbered k s) (h (hit k))
 
     all_agree : (s t : Sum Tree) → ((k : List ℕ) → residue m (numbered k s) ≡ residue m (numbered k t)) → (ks : List (List ℕ)) → list_all (agrees s t) ks ≡ true
@@ -115,7 +114,7 @@ module _ (table : List Atom) where
     all_agree s t h (k ∷ ks) = and_from (agrees s t k) (list_all (agrees s t) ks) (eq-eqb (residue m (numbered k s)) (residue m (numbered k t)) (h k)) (all_agree s t h ks)
 
     -- two sums are one form exactly where the clean forms that stand for them are one
-    pub one_form_decides : (f g : List Part) (s t : Sum Tree) → Clean m f → Clean m g → StandsFor table m f s → StandsFor table m g t → same_form same_numbered m s t ≡ same_parts f g
+    pub one_form_decides : (f g : List Part) (s t : Sum Tree) → Clean m f → Clean m g → StandsFor number m f s → StandsFor number m g t → same_form same_numbered m s t ≡ same_parts f g
     one_form_decides f g s t cf cg h i =
         both_ways (same_form same_numbered m s t) (same_parts f g)
         (λ e. (let both = and_parts (list_all (agrees s t) (keys s)) (list_all (agrees s t) (keys t)) (sym (same_form_keys s t) ∙ e) in
@@ -131,43 +130,43 @@ module _ (table : List Atom) where
     abbrev some_coefficient : Sum Tree → List ℕ → Bool
     some_coefficient s k = not (residue m (numbered k s) == 0)
 
-    filter_map : (test : List ℕ → Bool) (ps : List (List Tree)) → map (numbers table) (filter (λ p. test (numbers table p)) ps) ≡ filter test (map (numbers table) ps)
+    filter_map : (test : List ℕ → Bool) (ps : List (List Tree)) → map (numbers number) (filter (λ p. test (numbers number p)) ps) ≡ filter test (map (numbers number) ps)
     filter_map test [] = refl
-    filter_map test (p ∷ ps) = by (test (numbers table p)) (filter_map test ps)
+    filter_map test (p ∷ ps) = by (test (numbers number p)) (filter_map test ps)
       where
-        by : (t : Bool) → map (numbers table) (filter (λ q. test (numbers table q)) ps) ≡ filter test (map (numbers table) ps)
-            → map (numbers table) (cond t (p ∷ filter (λ q. test (numbers table q)) ps) (filter (λ q. test (numbers table q)) ps)) ≡ cond t (numbers table p ∷ filter test (map (numbers table) ps)) (filter test (map (numbers table) ps))
-        by true e = ap (λ xs. numbers table p ∷ xs) e
+        by : (t : Bool) → map (numbers number) (filter (λ q. test (numbers number q)) ps) ≡ filter test (map (numbers number) ps)
+            → map (numbers number) (cond t (p ∷ filter (λ q. test (numbers number q)) ps) (filter (λ q. test (numbers number q)) ps)) ≡ cond t (numbers number p ∷ filter test (map (numbers number) ps)) (filter test (map (numbers number) ps))
+        by true e = ap (λ xs. numbers number p ∷ xs) e
         by false e = e
 
-    monomial_keys : (s : Sum Tree) → map (numbers table) (monomials same_numbered m s) ≡ filter (some_coefficient s) (keys s)
-    monomial_keys s = (λ i. map (numbers table) (filter (λ p. not (form_numbered p s i == 0)) (products s))) ∙ filter_map (some_coefficient s) (products s)
+    monomial_keys : (s : Sum Tree) → map (numbers number) (monomials same_numbered m s) ≡ filter (some_coefficient s) (keys s)
+    monomial_keys s = (λ i. map (numbers number) (filter (λ p. not (form_numbered p s i == 0)) (products s))) ∙ filter_map (some_coefficient s) (products s)
 
-    member_map : (k : List Tree) (ps : List (List Tree)) → is_member (same_product same_numbered) ps k ≡ is_member (pointwise nat_eq) (map (numbers table) ps) (numbers table k)
+    member_map : (k : List Tree) (ps : List (List Tree)) → is_member (same_product same_numbered) ps k ≡ is_member (pointwise nat_eq) (map (numbers number) ps) (numbers number k)
     member_map k [] = refl
-    member_map k (p ∷ ps) = λ i. same_key (number table) k p i || member_map k ps i
+    member_map k (p ∷ ps) = λ i. same_key number k p i || member_map k ps i
 
-    unique_map : (ps : List (List Tree)) → map (numbers table) (unique_keys (same_product same_numbered) ps) ≡ unique_keys (pointwise nat_eq) (map (numbers table) ps)
+    unique_map : (ps : List (List Tree)) → map (numbers number) (unique_keys (same_product same_numbered) ps) ≡ unique_keys (pointwise nat_eq) (map (numbers number) ps)
     unique_map [] = refl
     unique_map (p ∷ ps) =
         by (is_member (same_product same_numbered) ps p) (unique_map ps)
-        ∙ (λ i. cond (member_map p ps i) (unique_keys (pointwise nat_eq) (map (numbers table) ps)) (numbers table p ∷ unique_keys (pointwise nat_eq) (map (numbers table) ps)))
+        ∙ (λ i. cond (member_map p ps i) (unique_keys (pointwise nat_eq) (map (numbers number) ps)) (numbers number p ∷ unique_keys (pointwise nat_eq) (map (numbers number) ps)))
       where
-        by : (t : Bool) → map (numbers table) (unique_keys (same_product same_numbered) ps) ≡ unique_keys (pointwise nat_eq) (map (numbers table) ps)
-            → map (numbers table) (cond t (unique_keys (same_product same_numbered) ps) (p ∷ unique_keys (same_product same_numbered) ps))
-            ≡ cond t (unique_keys (pointwise nat_eq) (map (numbers table) ps)) (numbers table p ∷ unique_keys (pointwise nat_eq) (map (numbers table) ps))
+        by : (t : Bool) → map (numbers number) (unique_keys (same_product same_numbered) ps) ≡ unique_keys (pointwise nat_eq) (map (numbers number) ps)
+            → map (numbers number) (cond t (unique_keys (same_product same_numbered) ps) (p ∷ unique_keys (same_product same_numbered) ps))
+            ≡ cond t (unique_keys (pointwise nat_eq) (map (numbers number) ps)) (numbers number p ∷ unique_keys (pointwise nat_eq) (map (numbers number) ps))
         by true e = e
-        by false e = ap (λ xs. numbers table p ∷ xs) e
+        by false e = ap (λ xs. numbers number p ∷ xs) e
 
     length_map : {X Y : Type 0} (g : X → Y) (xs : List X) → length (map g xs) ≡ length xs
     length_map g [] = refl
     length_map g (x ∷ xs) = ap suc (length_map g xs)
 
-    count_map : (ps : List (List Tree)) → distinct_count (same_product same_numbered) ps ≡ distinct_count (pointwise nat_eq) (map (numbers table) ps)
-    count_map ps = sym (length_map (numbers table) (unique_keys (same_product same_numbered) ps)) ∙ ap length (unique_map ps)
+    count_map : (ps : List (List Tree)) → distinct_count (same_product same_numbered) ps ≡ distinct_count (pointwise nat_eq) (map (numbers number) ps)
+    count_map ps = sym (length_map (numbers number) (unique_keys (same_product same_numbered) ps)) ∙ ap length (unique_map ps)
 
     -- the products of a form are the monomials of the sum
-    members : (f : List Part) (s : Sum Tree) → Clean m f → StandsFor table m f s → (k : List ℕ) → is_member (pointwise nat_eq) (products_of f) k ≡ is_member (pointwise nat_eq) (filter (some_coefficient s) (keys s)) k
+    members : (f : List Part) (s : Sum Tree) → Clean m f → StandsFor number m f s → (k : List ℕ) → is_member (pointwise nat_eq) (products_of f) k ≡ is_member (pointwise nat_eq) (filter (some_coefficient s) (keys s)) k
     members f s c h k =
         stands m k f c ∙ ap (λ n. not (n == 0)) (same_residue f s h k) ∙ by (list_any (pointwise nat_eq k) (keys s)) refl
         ∙ sym (is_member-filter nat_list_eq_equiv (some_coefficient s) k (λ x e. ap (some_coefficient s) (same_numbers k x e)) (keys s))
@@ -179,7 +178,7 @@ module _ (table : List Atom) where
     distinct : (f : List Part) → Clean m f → IsDistinct (pointwise nat_eq) (products_of f)
     distinct f c = subst (λ e. IsDistinct e (products_of f)) (λ i x y. sym (texts_ties x y) i) (IsDistinct-from_sorted (slice_cmp nat_cmp) (products_of f) (strictly_sorted m f c))
 
-    pub as_many : (f : List Part) (s : Sum Tree) → Clean m f → StandsFor table m f s → distinct_count (same_product same_numbered) (monomials same_numbered m s) ≡ length f
+    pub as_many : (f : List Part) (s : Sum Tree) → Clean m f → StandsFor number m f s → distinct_count (same_product same_numbered) (monomials same_numbered m s) ≡ length f
     as_many f s c h =
         count_map (monomials same_numbered m s) ∙ ap (distinct_count (pointwise nat_eq)) (monomial_keys s)
         ∙ sym (length-from_keys nat_list_eq_equiv (products_of f) (filter (some_coefficient s) (keys s)) (distinct f c) (members f s c h))
@@ -187,7 +186,7 @@ module _ (table : List Atom) where
 
     -- ---- degrees
 
-    holds_of_members : (test : List ℕ → Bool) (ks : List (List ℕ)) → ((k : List ℕ) → is_member (pointwise nat_eq) ks k ≡ true → test k ≡ true) → list_all test ks ≡ true
+    pub holds_of_members : (test : List ℕ → Bool) (ks : List (List ℕ)) → ((k : List ℕ) → is_member (pointwise nat_eq) ks k ≡ true → test k ≡ true) → list_all test ks ≡ true
     holds_of_members test [] h = refl
     holds_of_members test (k ∷ ks) h =
         and_from (test k) (list_all test ks) (h k (ap (λ t. t || list_any (pointwise nat_eq k) ks) (numbers_same k k refl)))
@@ -213,17 +212,17 @@ module _ (table : List Atom) where
     joined_length [] ys = omega arith
     joined_length (x ∷ xs) ys = let e = joined_length xs (with_atom x ys) in let f = with_atom_length x ys in omega (arith, e, f)
 
-    key_length : (p : List Tree) → length (numbers table p) ≡ length p
-    key_length p = let e = joined_length (map (number table) p) [] in let f = length_map (number table) p in omega (arith, e, f)
+    key_length : (p : List Tree) → length (numbers number p) ≡ length p
+    key_length p = let e = joined_length (map number p) [] in let f = length_map number p in omega (arith, e, f)
 
     abbrev small : List ℕ → Bool
     small k = nat_le (length k) 8
 
-    pub as_small : (f : List Part) (s : Sum Tree) → Clean m f → StandsFor table m f s → list_all (λ p. nat_le (length p) 8) (monomials same_numbered m s) ≡ list_all (λ (p : Part). nat_le (length p.atoms) 8) f
+    pub as_small : (f : List Part) (s : Sum Tree) → Clean m f → StandsFor number m f s → list_all (λ p. nat_le (length p) 8) (monomials same_numbered m s) ≡ list_all (λ (p : Part). nat_le (length p.atoms) 8) f
     as_small f s c h =
         (λ i. list_all (λ p. nat_le (sym (key_length p) i) 8) (monomials same_numbered m s))
-        ∙ sym (list_all-map small (numbers table) (monomials same_numbered m s)) ∙ ap (list_all small) (monomial_keys s)
+        ∙ sym (list_all-map small (numbers number) (monomials same_numbered m s)) ∙ ap (list_all small) (monomial_keys s)
         ∙ sym (all_by_members small (products_of f) (filter (some_coefficient s) (keys s)) (members f s c h)) ∙ list_all-map small (λ (p : Part). p.atoms) f
 
-    pub within_is : (f : List Part) (s : Sum Tree) → Clean m f → StandsFor table m f s → is_within same_numbered m s ≡ within_limits f
+    pub within_is : (f : List Part) (s : Sum Tree) → Clean m f → StandsFor number m f s → is_within same_numbered m s ≡ within_limits f
     within_is f s c h = λ i. nat_le (as_many f s c h i) 64 && as_small f s c h i

@@ -1,12 +1,17 @@
 pub mod Agreement
 pub mod AtomLemmas
 pub mod CleanForms
+pub mod ExactLimits
+pub mod ExactPolynomials
+pub mod ExactReadings
+pub mod ExactSums
 pub mod FixedTables
 pub mod FormBounds
 pub mod FormLemmas
 pub mod FormLimits
 pub mod FormTotals
 pub mod FormValues
+pub mod MetAtoms
 pub mod Products
 pub mod RankOrder
 pub mod Readings
@@ -14,3 +19,4 @@ pub mod RingLaw
 pub mod SameAtoms
 pub mod Tables
 pub mod TermLemmas
+pub mod WholeTotals

@@ -31,10 +31,10 @@ pub record Extends (old new : List Atom) : Type 0 where
 pub still_in : (old new : List Atom) (a : Atom) → Extends old new → IsIn old a → IsIn new a
 still_in old new a x h = let e = x.keeps a h in let l = x.longer in omega (arith, e, l, h)
 
-itself : (table : List Atom) → Extends table table
+pub itself : (table : List Atom) → Extends table table
 itself table = record { keeps = λ a h. refl; longer = omega arith }
 
-further : (a b c : List Atom) → Extends a b → Extends b c → Extends a c
+pub further : (a b c : List Atom) → Extends a b → Extends b c → Extends a c
 further a b c x y = record {
   keeps = λ e h. y.keeps e (still_in a b e x h) ∙ x.keeps e h;
   longer = let l = x.longer in let k = y.longer in omega (arith, l, k);
@@ -53,7 +53,7 @@ number_kept (c ∷ cs) a b h = by (same_entry c a) (same_entry c b) h (number_ke
         inner true i = refl
         inner false i = ap suc (later (omega arith))
 
-new_number : (table : List Atom) (a : Atom) → atom_number (with_new_atom table a) a ≡ atom_number table a
+pub new_number : (table : List Atom) (a : Atom) → atom_number (with_new_atom table a) a ≡ atom_number table a
 new_number [] a = number_here a a [] refl
 new_number (b ∷ bs) a = by (same_entry b a) refl (new_number bs a)
   where
@@ -61,10 +61,10 @@ new_number (b ∷ bs) a = by (same_entry b a) refl (new_number bs a)
     by true e later = refl
     by false e later = ap (λ n. cond (same_entry b a) 0 (suc n)) later
 
-new_in : (table : List Atom) (a : Atom) → IsIn (with_new_atom table a) a
+pub new_in : (table : List Atom) (a : Atom) → IsIn (with_new_atom table a) a
 new_in table a = let e = new_number table a in let l = number_below table a in omega (arith, e, l)
 
-extends_new : (table : List Atom) (a : Atom) → Extends table (with_new_atom table a)
+pub extends_new : (table : List Atom) (a : Atom) → Extends table (with_new_atom table a)
 extends_new table a = record { keeps = λ b h. number_kept table a b h; longer = new_longer table a }
 
 -- ---- a table that has all atoms of a term
@@ -121,7 +121,7 @@ module _ (old new : List Atom) (more : Extends old new) where
     kept_forms m nil h = refl
     kept_forms m (cons t ts) h = λ i. kept_form m t h.0 i ∷ kept_forms m ts h.1 i
 
-    kept_operands : (ts : Trees) → HasFull old ts → operands_over new ts ≡ operands_over old ts
+    pub kept_operands : (ts : Trees) → HasFull old ts → operands_over new ts ≡ operands_over old ts
     kept_operands nil h = refl
     kept_operands (cons t ts) h = λ i. record { ty = type_of t; form = kept_form (type_of t).width t h.0 i } ∷ kept_operands ts h.1 i
 
@@ -141,7 +141,7 @@ module _ (old new : List Atom) (more : Extends old new) where
     kept_has_all m nil h = tt
     kept_has_all m (cons t ts) h = (kept_has m t h.0, kept_has_all m ts h.1)
 
-    kept_has_full : (ts : Trees) → HasFull old ts → HasFull new ts
+    pub kept_has_full : (ts : Trees) → HasFull old ts → HasFull new ts
     kept_has_full nil h = tt
     kept_has_full (cons t ts) h = (kept_has (type_of t).width t h.0, kept_has_full ts h.1)
 
@@ -200,7 +200,7 @@ mutual
   all_extends m nil table = itself table
   all_extends m (cons t ts) table = further table (after m t table) (after_all m ts (after m t table)) (after_extends m t table) (all_extends m ts (after m t table))
 
-  full_extends : (ts : Trees) (table : List Atom) → Extends table (after_full ts table)
+  pub full_extends : (ts : Trees) (table : List Atom) → Extends table (after_full ts table)
   full_extends nil table = itself table
   full_extends (cons t ts) table =
       further table (after (type_of t).width t table) (after_full ts (after (type_of t).width t table)) (after_extends (type_of t).width t table) (full_extends ts (after (type_of t).width t table))
@@ -232,7 +232,7 @@ mutual
   has_all_after m (cons t ts) table =
       (kept_has (after m t table) (after_all m ts (after m t table)) (all_extends m ts (after m t table)) m t (has_after m t table), has_all_after m ts (after m t table))
 
-  has_full_after : (ts : Trees) (table : List Atom) → HasFull (after_full ts table) ts
+  pub has_full_after : (ts : Trees) (table : List Atom) → HasFull (after_full ts table) ts
   has_full_after nil table = tt
   has_full_after (cons t ts) table = (
     kept_has (after (type_of t).width t table) (after_full ts (after (type_of t).width t table)) (full_extends ts (after (type_of t).width t table)) (type_of t).width t (has_after (type_of t).width t table),
@@ -315,7 +315,7 @@ mutual
       ∙ (λ i. given (sym (kept_limited (after m t table) (after_all m ts (after m t table)) more m t has) i && all_limited (after_all m ts (after m t table)) m ts)
       (sym (kept_form (after m t table) (after_all m ts (after m t table)) more m t has) i ∷ forms_over (after_all m ts (after m t table)) m ts) (after_all m ts (after m t table)))
 
-  operand_forms_are : (ts : Trees) (table : List Atom) → operand_forms ts table ≡ given (full_limited (after_full ts table) ts) (operands_over (after_full ts table) ts) (after_full ts table)
+  pub operand_forms_are : (ts : Trees) (table : List Atom) → operand_forms ts table ≡ given (full_limited (after_full ts table) ts) (operands_over (after_full ts table) ts) (after_full ts table)
   operand_forms_are nil table = refl
   operand_forms_are (cons t ts) table =
       let more = full_extends ts (after (type_of t).width t table) in

@@ -31,6 +31,20 @@ use Rattle.ring_forms.proofs.Readings.{IsIn, Extends, Has, HasAll, HasFull, limi
 no_way : {A : Type 0} → false ≡ true → A
 no_way h = cc
 
+-- ---- factors of operations on sums
+
+module _ (P : Tree → Type 0) where
+  pub unary_factors : (code : Code) (f : Sum Tree) → Factors P f → Factors P (unary_sum code f)
+  unary_factors Negate f h = negated_factors P f h
+  unary_factors BitNot f h = (tt, negated_factors P f h)
+  unary_factors _ f h = h
+
+  pub binary_factors : (code : Code) (places : ℕ) (f g : Sum Tree) → Factors P f → Factors P g → Factors P (binary_sum code places f g)
+  binary_factors Minus places f g h i = append_factors P f (negated g) h (negated_factors P g i)
+  binary_factors Mult places f g h i = product_factors P f g h i
+  binary_factors Lshift places f g h i = scaled_factors P (pos (2 ^ places)) f h
+  binary_factors _ places f g h i = append_factors P f g h i
+
 -- ---- one number, one entry
 
 one_entry : (table : List Atom) (a b : Atom) → IsIn table a → atom_number table a ≡ atom_number table b → a ≡ b
@@ -45,7 +59,7 @@ one_entry (c ∷ cs) a b h e = by (same_entry c a) (same_entry c b) refl refl h 
     by false false p q i f later = later (omega arith) (omega (arith, f))
 
 module _ (table : List Atom) where
-  entries_decide : (a b : Atom) → IsIn table a → same_entry a b ≡ (atom_number table a == atom_number table b)
+  pub entries_decide : (a b : Atom) → IsIn table a → same_entry a b ≡ (atom_number table a == atom_number table b)
   entries_decide a b h =
       both_ways (same_entry a b) (atom_number table a == atom_number table b)
       (λ e. eq-eqb (atom_number table a) (atom_number table b) (ap (atom_number table) ((atom_decides a b).0 e)))
@@ -54,13 +68,13 @@ module _ (table : List Atom) where
   -- ---- the atoms of a term
 
   -- an atom that the table has, with what stands in it
-  abbrev IsHeld : Tree → Type 0
+  abbrev pub IsHeld : Tree → Type 0
   IsHeld (name version ty) = IsIn table (Name version ty)
   IsHeld (constant word) = ⊥
   IsHeld (node code ty args) = IsIn table (Operation code ty (operands_over table args)) × HasFull table args
 
   -- the same of a well-typed one with fewer operations
-  abbrev Held : ℕ → Tree → Type 0
+  abbrev pub Held : ℕ → Tree → Type 0
   Held depth t = IsHeld t × IsWellTyped t × (operations t < depth)
 
   module _ (depth m : ℕ) where
@@ -71,17 +85,6 @@ module _ (table : List Atom) where
     chosen true f g h i = h refl
     chosen false f g h i = i refl
 
-    unary_factors : (code : Code) (f : Sum Tree) → Factors (Held depth) f → Factors (Held depth) (unary_sum code f)
-    unary_factors Negate f h = negated_factors (Held depth) f h
-    unary_factors BitNot f h = (tt, negated_factors (Held depth) f h)
-    unary_factors _ f h = h
-
-    binary_factors : (code : Code) (places : ℕ) (f g : Sum Tree) → Factors (Held depth) f → Factors (Held depth) g → Factors (Held depth) (binary_sum code places f g)
-    binary_factors Minus places f g h i = append_factors (Held depth) f (negated g) h (negated_factors (Held depth) g i)
-    binary_factors Mult places f g h i = product_factors (Held depth) f g h i
-    binary_factors Lshift places f g h i = scaled_factors (Held depth) (pos (2 ^ places)) f h
-    binary_factors _ places f g h i = append_factors (Held depth) f g h i
-
     own : (code : Code) (ty : Ty) (args : Trees) → Has table m (node code ty args) → IsWellTyped (node code ty args) → operations (node code ty args) < depth → goes_by_parts m code ty args ≡ false
         → Factors (Held depth) (atom (node code ty args))
     own code ty args h w o e = alone (node code ty args) (h.1 e, w, o)
@@ -91,26 +94,26 @@ module _ (table : List Atom) where
     factors (constant word) h w o = (tt, tt)
     factors (node code ty nil) h w o = chosen (goes_by_parts m code ty nil) _ _ (λ e. tt) (own code ty nil h w o)
     factors (node code ty (cons t nil)) h w o =
-        chosen (goes_by_parts m code ty (cons t nil)) _ _ (λ e. unary_factors code (expanded m t) (factors t (h.0 e).0 w.2.0 (omega arith))) (own code ty (cons t nil) h w o)
+        chosen (goes_by_parts m code ty (cons t nil)) _ _ (λ e. unary_factors (Held depth) code (expanded m t) (factors t (h.0 e).0 w.2.0 (omega arith))) (own code ty (cons t nil) h w o)
     factors (node code ty (cons t (cons u nil))) h w o =
         chosen (goes_by_parts m code ty (cons t (cons u nil))) _ _
-        (λ e. binary_factors code (unwrap_or (constant_places ty (cons t (cons u nil))) 0) (expanded m t) (expanded m u) (factors t (h.0 e).0 w.2.0 (omega arith)) (factors u (h.0 e).1.0 w.2.1.0 (omega arith)))
+        (λ e. binary_factors (Held depth) code (unwrap_or (constant_places ty (cons t (cons u nil))) 0) (expanded m t) (expanded m u) (factors t (h.0 e).0 w.2.0 (omega arith)) (factors u (h.0 e).1.0 w.2.1.0 (omega arith)))
         (own code ty (cons t (cons u nil)) h w o)
     factors (node code ty (cons t (cons u (cons r rs)))) h w o = chosen (goes_by_parts m code ty (cons t (cons u (cons r rs)))) _ _ (λ e. tt) (own code ty (cons t (cons u (cons r rs))) h w o)
 
   -- ---- the same atoms
 
-  abbrev Agrees : ℕ → Type 0
+  abbrev pub Agrees : ℕ → Type 0
   Agrees depth = (a b : Tree) → Held depth a → Held depth b → same_atom depth a b ≡ (number table a == number table b)
 
   -- one form by the definition exactly where one form over the table
   one_form_is : (depth : ℕ) → Agrees depth → (m : ℕ) → 0 < m → (t u : Tree) → Has table m t → Has table m u → IsWellTyped t → IsWellTyped u → operations t < depth → operations u < depth
       → same_form (same_atom depth) m (expanded m t) (expanded m u) ≡ same_parts (form_over table m t) (form_over table m u)
   one_form_is depth agree m some t u h i w x o p =
-      form_agree (Held depth) (same_atom depth) (same_numbered table) agree m (expanded m t) (expanded m u) (factors depth m t h w o) (factors depth m u i x p)
-      ∙ one_form_decides table m (form_over table m t) (form_over table m u) (expanded m t) (expanded m u) (clean_over table m some t) (clean_over table m some u) (stands_for table m t) (stands_for table m u)
+      form_agree (Held depth) (same_atom depth) (same_numbered (number table)) agree m (expanded m t) (expanded m u) (factors depth m t h w o) (factors depth m u i x p)
+      ∙ one_form_decides (number table) m (form_over table m t) (form_over table m u) (expanded m t) (expanded m u) (clean_over table m some t) (clean_over table m some u) (stands_for table m t) (stands_for table m u)
 
-  well_typed_width : (t : Tree) → IsWellTyped t → 0 < (type_of t).width
+  pub well_typed_width : (t : Tree) → IsWellTyped t → 0 < (type_of t).width
   well_typed_width (name version ty) w = width_positive ty w
   well_typed_width (constant word) w = width_positive word.ty w.0
   well_typed_width (node code ty args) w = width_positive ty w.0
@@ -131,7 +134,7 @@ module _ (table : List Atom) where
       by true e = at (type_of u) (same_type_is (type_of t) (type_of u) e) i
       by false e = refl
 
-  operands_are : (depth : ℕ) → Agrees depth → (ts us : Trees) → HasFull table ts → HasFull table us → AreWellTyped ts → AreWellTyped us → operations_of ts < depth → operations_of us < depth
+  pub operands_are : (depth : ℕ) → Agrees depth → (ts us : Trees) → HasFull table ts → HasFull table us → AreWellTyped ts → AreWellTyped us → operations_of ts < depth → operations_of us < depth
       → same_operands (same_atom depth) ts us ≡ pointwise same_entry_operand (operands_over table ts) (operands_over table us)
   operands_are depth agree nil nil h i w x o p = refl
   operands_are depth agree nil (cons u us) h i w x o p = refl
@@ -139,7 +142,7 @@ module _ (table : List Atom) where
   operands_are depth agree (cons t ts) (cons u us) h i w x o p =
       λ k. operand_is depth agree t u h.0 i.0 w.0 x.0 (omega arith) (omega arith) k && operands_are depth agree ts us h.1 i.1 w.1 x.1 (omega arith) (omega arith) k
 
-  atoms_agree : (depth : ℕ) → Agrees depth
+  pub atoms_agree : (depth : ℕ) → Agrees depth
   atoms_agree zero a b h i = absurd (let o = h.2 in omega (arith, o))
   atoms_agree (suc depth) (constant word) b h i = absurd h.0
   atoms_agree (suc depth) (name v s) (constant word) h i = absurd i.0
@@ -165,8 +168,8 @@ module _ (table : List Atom) where
       where
         within : is_within (same_atom depth) m (expanded m (node code ty args)) ≡ within_limits (form_over table m (node code ty args))
         within =
-            within_agree (Held depth) (same_atom depth) (same_numbered table) (atoms_agree depth) m (expanded m (node code ty args)) (factors depth m (node code ty args) h w o)
-            ∙ within_is table m (form_over table m (node code ty args)) (expanded m (node code ty args)) (clean_over table m some (node code ty args)) (stands_for table m (node code ty args))
+            within_agree (Held depth) (same_atom depth) (same_numbered (number table)) (atoms_agree depth) m (expanded m (node code ty args)) (factors depth m (node code ty args) h w o)
+            ∙ within_is (number table) m (form_over table m (node code ty args)) (expanded m (node code ty args)) (clean_over table m some (node code ty args)) (stands_for table m (node code ty args))
 
         by : (b : Bool) → goes_by_parts m code ty args ≡ b → (goes_by_parts m code ty args ≡ true → have_forms (same_atom depth) m args ≡ all_limited table m args)
             → (goes_by_parts m code ty args ≡ false → have_full_forms (same_atom depth) args ≡ full_limited table args)
@@ -178,7 +181,7 @@ module _ (table : List Atom) where
     have_forms_are depth m some nil h w o = refl
     have_forms_are depth m some (cons t ts) h w o = λ i. has_form_is depth m some t h.0 w.0 (omega arith) i && have_forms_are depth m some ts h.1 w.1 (omega arith) i
 
-    full_forms_are : (depth : ℕ) → (ts : Trees) → HasFull table ts → AreWellTyped ts → operations_of ts < depth → have_full_forms (same_atom depth) ts ≡ full_limited table ts
+    pub full_forms_are : (depth : ℕ) → (ts : Trees) → HasFull table ts → AreWellTyped ts → operations_of ts < depth → have_full_forms (same_atom depth) ts ≡ full_limited table ts
     full_forms_are depth nil h w o = refl
     full_forms_are depth (cons t ts) h w o = λ i. has_form_is depth (type_of t).width (well_typed_width t w.0) t h.0 w.0 (omega arith) i && full_forms_are depth ts h.1 w.1 (omega arith) i
 

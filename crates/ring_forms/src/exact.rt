@@ -6,7 +6,7 @@ ghost use Rattle.pm_wide.specs.Residues.{residue};
 ghost use Rattle.pm_wide.specs.Types.{value};
 ghost use Rattle.pm_term.specs.TermTrees.{tree_of, trees_of};
 ghost use Rattle.pm_term.specs.Trees.{IsWellTyped, AreWellTyped};
-ghost use Rattle.ring_forms.specs.ExactForms.{goes_exactly};
+ghost use Rattle.ring_forms.specs.ExactForms.{goes_exactly, has_exact_form, IsExactForm};
 ghost use Rattle.ring_forms.specs.ExactTables.{met, exact_read, exact_reads, exact_combined, exact_atom, exact_terms, is_small, is_exact};
 ghost use Rattle.ring_forms.specs.TableForms.{operand_forms};
 
@@ -31,7 +31,18 @@ pub(crate) struct Reading {
 /// The exact form of a term of a signed type, as a polynomial over its atoms. There is none for a
 /// term of an unsigned type, where a part is past the limits, or where an operand of an atom has no
 /// ring form.
+#[tactic(auto, using(crate::proofs::ExactPolynomials::no_form, crate::proofs::ExactPolynomials::one_form))]
 pub fn exact_form(alloc: Global, term: &Typed) -> Result<Option<Poly>, OutOfMemory>
+    ensures { IfOk result (λ poly. MatchOption poly
+        (has_exact_form term.now ≡ false)
+        (λ p. (has_exact_form term.now ≡ true) × IsExactForm term.now p.terms)) }
+{
+    let _typed = term.term();
+    read_exactly(alloc, term)
+}
+
+/// The same, read over tables of the atoms met.
+fn read_exactly(alloc: Global, term: &Typed) -> Result<Option<Poly>, OutOfMemory>
     ensures { IfOk result (λ poly. MatchOption poly
         (exact_terms term.now ≡ None)
         (λ p. exact_terms term.now ≡ Some p.terms)) }
