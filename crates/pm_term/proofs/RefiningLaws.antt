@@ -7,11 +7,11 @@ use Rattle.pm_term.specs.Refines.{HasValues, HaveValues, Refines}
 use Rattle.pm_term.specs.Terms.{operation_on, with_value, term_value, term_values}
 use Rattle.pm_term.specs.Trees.{Tree, name, constant, node, Trees, nil, cons}
 
-on_values : (code : Code) (ty : Ty) (o : Option (List Word)) (r : Word) → operation_on code ty o ≡ Some r → (ws : List Word) × (o ≡ Some ws)
+pub on_values : (code : Code) (ty : Ty) (o : Option (List Word)) (r : Word) → operation_on code ty o ≡ Some r → (ws : List Word) × (o ≡ Some ws)
 on_values code ty None r e = cc
 on_values code ty (Some ws) r e = (ws, refl)
 
-both : (o : Option Word) (p : Option (List Word)) (ws : List Word) → with_value o p ≡ Some ws → (x : Word) × (xs : List Word) × (o ≡ Some x) × (p ≡ Some xs)
+pub both : (o : Option Word) (p : Option (List Word)) (ws : List Word) → with_value o p ≡ Some ws → (x : Word) × (xs : List Word) × (o ≡ Some x) × (p ≡ Some xs)
 both None p ws e = cc
 both (Some x) None ws e = cc
 both (Some x) (Some xs) ws e = (x, xs, refl, refl)

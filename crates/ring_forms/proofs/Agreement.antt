@@ -1,10 +1,10 @@
 -- Tests of factors that agree on the factors of sums: the sums then have the same coefficients and
 -- forms by either.
-use Rattle.std.proofs.Common.{◌≡◌, ℕ, suc, ◌==◌, Bool, true, false, not, cond, ◌&&◌, ◌||◌, List, [], ◌∷◌, ◌++◌, map, length, refl, ap, ◌∙◌}
+use Rattle.std.proofs.Common.{◌≡◌, ℕ, suc, ◌==◌, Bool, true, false, not, cond, ◌&&◌, ◌||◌, List, [], ◌∷◌, ◌++◌, map, length, refl, ◌∙◌}
 use Rattle.std.specs.Prelude.{ℤ, pos, ◌+ℤ◌, ◌*ℤ◌, ◌^◌, nat_le, nat_lt}
 use Rattle.std.specs.Int.RustNames.{unsigned_abs}
 use Rattle.std.specs.List.{list_all, list_any, filter, AllByRecursion}
-use Rattle.std.specs.Set.{unique_keys, is_member}
+use Rattle.std.specs.Set.{unique_keys}
 use Rattle.pm_wide.specs.Residues.{residue}
 use Rattle.pm_term.specs.Trees.{Tree}
 use Rattle.ring_forms.specs.Sums.{Sum, times_in, same_product, coefficient, negated, scaled, product}

@@ -1,8 +1,7 @@
 -- Forms without zeros whose parts rise, and that such a form is known by its coefficients.
-use Rattle.std.proofs.Common.{◌≡◌, ℕ, zero, suc, ◌+◌, ◌<◌, ◌≤◌, ◌==◌, ◌^◌, Bool, true, false, not, cond, ◌||◌, List, [], ◌∷◌, map, length, refl, sym, ap, subst, ◌∙◌, arith, eq-eqb, eqb-true, pow_mono, Ordering, Less, Equal, Greater}
+use Rattle.std.proofs.Common.{◌≡◌, ℕ, zero, suc, ◌<◌, ◌≤◌, ◌==◌, ◌^◌, Bool, true, false, not, cond, ◌||◌, List, [], ◌∷◌, map, refl, sym, ap, subst, ◌∙◌, arith, eqb-true, pow_mono, Ordering, Less, Equal, Greater}
 use Rattle.std.specs.Prelude.{ℤ, pos, negsuc, ◌+ℤ◌, ◌-ℤ◌, ◌*ℤ◌, nat_eq, ⊤}
 use Rattle.std.specs.Cmp.Lexicographic.{slice_cmp, pointwise, texts_ties}
-use Rattle.std.specs.Cmp.{IsTotalOrder}
 use Rattle.std.specs.List.{AllByRecursion, list_any}
 use Rattle.std.specs.List.Sorted.{IsStrictlySortedBy}
 use Rattle.std.specs.Ordering.{nat_cmp, ordering_reverse, is_eq}
@@ -15,11 +14,11 @@ use Rattle.pm_ops.specs.declared.code.Code.{Code}
 use Rattle.pm_ops.specs.declared.code.Code.TheVariants.{Minus, Mult, Negate, BitNot, Lshift}
 use Rattle.pm_wide.specs.Congruence.{Congruent}
 use Rattle.pm_wide.specs.Residues.{residue}
-use Rattle.pm_wide.proofs.Congruence.{same, turned, joined, sums, differences, negatives}
+use Rattle.pm_wide.proofs.Congruence.{same, turned, differences}
 use Rattle.pm_wide.proofs.Residues.{residue_congruent, residue-below}
 use Rattle.pm_wide.proofs.Words.{same_word, word-value}
 use Rattle.ring_forms.specs.declared.form.Part.{Part}
-use Rattle.ring_forms.specs.Forms.{part_of, placed, with_part, with_product, constant_form, atom_form, sum_form, negated_form, negated_part, joined_atoms, part_times, form_times}
+use Rattle.ring_forms.specs.Forms.{part_of, placed, with_part, with_product, constant_form, atom_form, sum_form, negated_form, joined_atoms, part_times, form_times}
 use Rattle.ring_forms.specs.TableForms.{unary_form, binary_form, combined_form}
 use Rattle.ring_forms.proofs.FormLemmas.{equal_is, same_numbers, numbers_same}
 use Rattle.ring_forms.proofs.FormTotals.{form_total, equal_congruent}

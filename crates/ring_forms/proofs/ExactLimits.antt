@@ -1,18 +1,18 @@
 -- An exact form is read exactly where the definition says that there is one, and has its
 -- coefficients.
-use Rattle.std.proofs.Common.{◌≡◌, ℕ, zero, suc, ◌+◌, ◌-◌, ◌*◌, ◌<◌, ◌≤◌, ◌^◌, ◌==◌, ◌||◌, Bool, true, false, cond, ◌&&◌, List, [], ◌∷◌, ◌++◌, map, length, refl, sym, ap, subst, ◌∙◌, arith, ltb-true, ltb-false, pow_mono, pow-suc, mul-le-mul, le_refl}
+use Rattle.std.proofs.Common.{◌≡◌, ℕ, zero, suc, ◌+◌, ◌-◌, ◌*◌, ◌<◌, ◌≤◌, ◌^◌, ◌==◌, ◌||◌, Bool, true, false, cond, ◌&&◌, List, [], ◌∷◌, ◌++◌, length, refl, sym, ap, subst, ◌∙◌, arith, ltb-true, ltb-false, pow_mono, pow-suc, mul-le-mul, le_refl}
 use Rattle.std.specs.Prelude.{ℤ, pos, negsuc, ◌+ℤ◌, ◌-ℤ◌, ◌*ℤ◌, nat_lt, nat_le, nat_eq, bytes_eq, IsTrue}
 use Rattle.std.specs.Cmp.Lexicographic.{pointwise}
 use Rattle.std.specs.Int.RustNames.{unsigned_abs}
-use Rattle.std.specs.List.{list_all, AllByRecursion}
+use Rattle.std.specs.List.{list_all}
 use Rattle.std.proofs.lemmas.Bool.{and_parts}
 use Rattle.std.proofs.lemmas.Bool.Decides.{nat_tests}
 use Rattle.std.proofs.lemmas.Int.{ints}
 use Rattle.pm_ops.specs.declared.code.Code.{Code}
 use Rattle.pm_ops.specs.declared.code.Code.TheVariants.{Plus, Minus, Mult, Negate, BitNot, Cond}
 use Rattle.pm_ops.specs.Names.{code_name}
-use Rattle.pm_wide.specs.Types.{Ty, Word, IsType, IsWord, same_type, value}
-use Rattle.pm_wide.specs.Typing.{well_typed_operation, well_typed_unary, well_typed_binary}
+use Rattle.pm_wide.specs.Types.{Ty, Word, IsWord, same_type, value}
+use Rattle.pm_wide.specs.Typing.{well_typed_operation}
 use Rattle.pm_wide.proofs.Results.{same_type_is}
 use Rattle.pm_wide.proofs.Values.{width_small}
 use Rattle.pm_term.specs.Trees.{Tree, name, constant, node, Trees, nil, cons, type_of, types_of, operations, operations_of, IsWellTyped, AreWellTyped}
@@ -25,7 +25,7 @@ use Rattle.ring_forms.specs.ExactTables.{is_exact}
 use Rattle.ring_forms.specs.Forms.{constant_form, atom_form, within_limits, joined_atoms}
 use Rattle.ring_forms.specs.RingForms.{unary_sum, binary_sum, combined_sum, atom, have_full_forms, same_atom}
 use Rattle.ring_forms.specs.Sums.{Sum, negated, product}
-use Rattle.ring_forms.specs.TableForms.{unary_form, binary_form, combined_form}
+use Rattle.ring_forms.specs.TableForms.{combined_form}
 use Rattle.ring_forms.proofs.Agreement.{Factors, exactly_within_agree}
 use Rattle.ring_forms.proofs.CleanForms.{Clean, AreClean, hit, constant_clean, atom_clean, combined_clean}
 use Rattle.ring_forms.proofs.ExactReadings.{exact_over, exacts_over, Met, AllMet, exact_limited, all_exact_limited}
@@ -67,20 +67,20 @@ signed_size w h u = by (nat_lt w.bits (2 ^ (w.ty.width - 1))) refl
         lower n m k a b c d = omega (arith, ints, a, b, c, d)
 
 -- operands of what goes by parts have its type
-one_type : (code : Code) (ty s : Ty) → goes_exactly code ≡ true → IsTrue (well_typed_operation code ty (s ∷ [])) → s ≡ ty
+pub one_type : (code : Code) (ty s : Ty) → goes_exactly code ≡ true → IsTrue (well_typed_operation code ty (s ∷ [])) → s ≡ ty
 unfolding well_typed_operation
 one_type Negate ty s g w = same_type_is s ty w
 one_type BitNot ty s g w = same_type_is s ty w
 one_type _ ty s g w = cc
 
-two_types : (code : Code) (ty s t : Ty) → goes_exactly code ≡ true → IsTrue (well_typed_operation code ty (s ∷ t ∷ [])) → (s ≡ ty) × (t ≡ ty)
+pub two_types : (code : Code) (ty s t : Ty) → goes_exactly code ≡ true → IsTrue (well_typed_operation code ty (s ∷ t ∷ [])) → (s ≡ ty) × (t ≡ ty)
 unfolding well_typed_operation
 two_types Plus ty s t g w = let both = and_parts (same_type s ty) (same_type t ty) w in (same_type_is s ty both.0, same_type_is t ty both.1)
 two_types Minus ty s t g w = let both = and_parts (same_type s ty) (same_type t ty) w in (same_type_is s ty both.0, same_type_is t ty both.1)
 two_types Mult ty s t g w = let both = and_parts (same_type s ty) (same_type t ty) w in (same_type_is s ty both.0, same_type_is t ty both.1)
 two_types _ ty s t g w = cc
 
-no_three : (code : Code) (ty s t u : Ty) (us : List Ty) → goes_exactly code ≡ true → IsTrue (well_typed_operation code ty (s ∷ t ∷ u ∷ us)) → ⊥
+pub no_three : (code : Code) (ty s t u : Ty) (us : List Ty) → goes_exactly code ≡ true → IsTrue (well_typed_operation code ty (s ∷ t ∷ u ∷ us)) → ⊥
 unfolding well_typed_operation
 no_three code ty s t u (v ∷ vs) g w = cc
 no_three Cond ty s t u [] g w = cc
@@ -266,7 +266,7 @@ module _ (r : Reading) where
 
   -- ---- the same atoms
 
-  abbrev IsMet : Tree → Type 0
+  abbrev pub IsMet : Tree → Type 0
   IsMet (name version ty) = IsIn r.atoms (Name version ty)
   IsMet (constant word) = ⊥
   IsMet (node code ty args) = IsIn r.atoms (Operation code ty (operands_over r.inner args)) × HasFull r.inner args

@@ -1,5 +1,5 @@
 -- What is read and put in order is the exact form.
-use Rattle.std.proofs.Common.{◌≡◌, ℕ, suc, ◌<◌, ◌≤◌, ◌==◌, ◌^◌, Bool, true, false, not, cond, ◌&&◌, ◌||◌, Option, Some, None, List, [], ◌∷◌, map, length, refl, sym, ap, subst, ◌∙◌, arith}
+use Rattle.std.proofs.Common.{◌≡◌, ℕ, suc, ◌<◌, ◌≤◌, ◌^◌, Bool, true, false, not, cond, ◌&&◌, Option, Some, None, List, [], ◌∷◌, map, length, refl, sym, ap, subst, ◌∙◌, arith}
 use Rattle.std.specs.Prelude.{ℤ, pos, neg_ℤ, ◌+ℤ◌, ◌*ℤ◌, ◌-◌, ◌≢◌, nat_le, nat_lt, nat_eq}
 use Rattle.std.specs.Cmp.Lexicographic.{pointwise}
 use Rattle.std.specs.List.{list_all, AllByRecursion}
@@ -18,14 +18,14 @@ use Rattle.ring_forms.specs.ExactTables.{is_small, is_exact, exact_read, blank, 
 use Rattle.ring_forms.specs.Forms.{constant_form, atom_form, within_limits}
 use Rattle.ring_forms.specs.TableForms.{combined_form}
 use Rattle.ring_forms.specs.Polynomials.{in_rank_order, terms_of, whole}
-use Rattle.ring_forms.specs.Sums.{Sum, same_product, coefficient}
+use Rattle.ring_forms.specs.Sums.{Sum, coefficient}
 use Rattle.ring_forms.proofs.Agreement.{Factors}
 use Rattle.ring_forms.proofs.CleanForms.{Clean, hit}
 use Rattle.ring_forms.proofs.ExactLimits.{met_number, Good, HeldMet, good_read, exact_parts_are, held_factors}
 use Rattle.ring_forms.proofs.ExactReadings.{afterwards, met_afterwards, exact_over, exacts_over, exact_limited, all_exact_limited, exact_read_is}
 use Rattle.ring_forms.proofs.ExactSums.{signed, small_all}
 use Rattle.ring_forms.proofs.FixedTables.{operands_over, entry, total, numbers}
-use Rattle.ring_forms.proofs.MetAtoms.{HeldInside, AllHeld, Told, told_afterwards, place_is}
+use Rattle.ring_forms.proofs.MetAtoms.{HeldInside, Told, told_afterwards, place_is}
 use Rattle.ring_forms.proofs.Products.{same_number, same_sorted, sorted, sorted_itself, Rising}
 use Rattle.ring_forms.proofs.RankOrder.{Small, terms_are, ranked_all, in_order, ranked_total}
 use Rattle.ring_forms.proofs.Readings.{itself, full_limited}
@@ -36,7 +36,7 @@ times : (t : Bool) (c : ℤ) → cond t c (pos 0) ≡ c *ℤ cond t (pos 1) (pos
 times true c = omega (arith, ints)
 times false c = omega (arith, ints)
 
-coefficient_total : (p : List ℕ) (s : Sum ℕ) → coefficient same_number p s ≡ total (λ q. hit (sorted p) (sorted q)) s
+pub coefficient_total : (p : List ℕ) (s : Sum ℕ) → coefficient same_number p s ≡ total (λ q. hit (sorted p) (sorted q)) s
 coefficient_total p [] = refl
 coefficient_total p (e ∷ es) = λ i. (ap (λ b. cond b e.0 (pos 0)) (same_sorted p e.1) ∙ times (pointwise nat_eq (sorted p) (sorted e.1)) e.0) i +ℤ coefficient_total p es i
 
@@ -95,10 +95,10 @@ module _ (t : Tree) (w : IsWellTyped t) where
   abbrev depth : ℕ
   depth = suc (operations t)
 
-  told : Told r.inner depth r × (r.nodes ≡ met_atoms t)
+  pub told : Told r.inner depth r × (r.nodes ≡ met_atoms t)
   told = told_afterwards r.inner depth t blank (itself r.inner) w (omega arith) (record { entries = refl; held = tt })
 
-  limited_is : (type_of t).unsigned ≡ false → has_exact_parts (same_in t) t ≡ exact_limited r t
+  pub limited_is : (type_of t).unsigned ≡ false → has_exact_parts (same_in t) t ≡ exact_limited r t
   limited_is u = exact_parts_are r depth t (met_afterwards t blank) w u (omega arith)
 
   inside : (a : Tree) → HeldMet r depth a → HeldInside r.inner depth a
@@ -107,7 +107,7 @@ module _ (t : Tree) (w : IsWellTyped t) where
   inside (node code ty args) h = (h.0.1, h.1, h.2)
 
   -- an atom's place among those met is its number
-  place_number : (a : Tree) → HeldMet r depth a → place_in (same_in t) (met_atoms t) a ≡ met_number r a
+  pub place_number : (a : Tree) → HeldMet r depth a → place_in (same_in t) (met_atoms t) a ≡ met_number r a
   place_number a h =
       ap (λ nodes. place_in (same_in t) nodes a) (sym told.1) ∙ place_is r.inner depth a r.nodes (inside a h) told.0.held
       ∙ ap (λ atoms. atom_number atoms (entry r.inner a)) (sym told.0.entries)

@@ -1,5 +1,5 @@
 -- What is met when an exact form is read; the form that is read goes by what is met in all.
-use Rattle.std.proofs.Common.{◌≡◌, ℕ, suc, ◌<◌, ◌≤◌, Bool, true, false, cond, ◌&&◌, Option, Some, None, List, [], ◌∷◌, length, refl, sym, ap, subst, ◌∙◌, arith}
+use Rattle.std.proofs.Common.{◌≡◌, Bool, true, false, cond, ◌&&◌, Option, Some, None, List, [], ◌∷◌, refl, sym, ap, subst, ◌∙◌}
 use Rattle.std.specs.Prelude.{⊤}
 use Rattle.pm_ops.specs.declared.code.Code.{Code}
 use Rattle.pm_wide.specs.Types.{Ty, value}
@@ -8,9 +8,9 @@ use Rattle.ring_forms.specs.declared.atom.Atom.{Atom}
 use Rattle.ring_forms.specs.declared.atom.Atom.TheVariants.{Name, Operation}
 use Rattle.ring_forms.specs.declared.exact.Reading.{Reading}
 use Rattle.ring_forms.specs.declared.form.Part.{Part}
-use Rattle.ring_forms.specs.Atoms.{atom_number, with_new_atom}
+use Rattle.ring_forms.specs.Atoms.{atom_number}
 use Rattle.ring_forms.specs.ExactForms.{goes_exactly}
-use Rattle.ring_forms.specs.ExactTables.{is_exact, exactly, met, met_form, exact_combined, exact_atom, exact_first, and_exacts, exact_read, exact_reads}
+use Rattle.ring_forms.specs.ExactTables.{is_exact, met, exact_combined, exact_atom, exact_first, and_exacts, exact_read, exact_reads}
 use Rattle.ring_forms.specs.Forms.{constant_form, atom_form}
 use Rattle.ring_forms.specs.TableForms.{combined_form, operand_forms}
 use Rattle.ring_forms.proofs.FixedTables.{operands_over}

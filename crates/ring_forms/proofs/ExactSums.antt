@@ -1,13 +1,13 @@
 -- Forms modulo 2 ^ 128 whose coefficients are small stand for sums over whole numbers.
-use Rattle.std.proofs.Common.{◌≡◌, ℕ, zero, suc, ◌+◌, ◌-◌, ◌*◌, ◌<◌, ◌≤◌, ◌^◌, ◌==◌, Bool, true, false, not, cond, ◌&&◌, ◌||◌, List, [], ◌∷◌, ◌++◌, map, length, refl, sym, ap, subst, ◌∙◌, arith, eq-eqb, eqb-true, ltb-true, ltb-false, lt-ltb, Less, Greater}
-use Rattle.std.specs.Prelude.{ℤ, pos, negsuc, neg_ℤ, ◌+ℤ◌, ◌-ℤ◌, ◌*ℤ◌, nat_lt, nat_le, nat_eq, IsTrue}
+use Rattle.std.proofs.Common.{◌≡◌, ℕ, suc, ◌-◌, ◌<◌, ◌≤◌, ◌^◌, ◌==◌, Bool, true, false, not, cond, ◌&&◌, List, [], ◌∷◌, map, length, refl, sym, ap, subst, ◌∙◌, arith, eqb-true, Greater}
+use Rattle.std.specs.Prelude.{ℤ, pos, negsuc, neg_ℤ, ◌+ℤ◌, ◌*ℤ◌, nat_lt, nat_le, nat_eq}
 use Rattle.std.specs.Cmp.{both_ways}
-use Rattle.std.specs.Cmp.Lexicographic.{slice_cmp, pointwise, texts_ties}
+use Rattle.std.specs.Cmp.Lexicographic.{pointwise, texts_ties}
 use Rattle.std.specs.Int.RustNames.{unsigned_abs}
 use Rattle.std.specs.List.{list_all, list_any, filter, AllByRecursion}
-use Rattle.std.specs.Ordering.{nat_cmp, ordering_reverse, is_eq}
+use Rattle.std.specs.Ordering.{ordering_reverse, is_eq}
 use Rattle.std.specs.Set.{is_member, distinct_count}
-use Rattle.std.proofs.lemmas.Bool.{and_parts, and_from}
+use Rattle.std.proofs.lemmas.Bool.{and_parts}
 use Rattle.std.proofs.lemmas.Bool.Decides.{nat_tests}
 use Rattle.std.proofs.lemmas.Cmp.{nat_list_cmp_total}
 use Rattle.std.proofs.lemmas.Int.{ints}
@@ -20,11 +20,10 @@ use Rattle.pm_term.specs.Trees.{Tree}
 use Rattle.ring_forms.specs.declared.form.Part.{Part}
 use Rattle.ring_forms.specs.ExactForms.{exact_monomials, is_exactly_within}
 use Rattle.ring_forms.specs.ExactTables.{is_small, is_exact}
-use Rattle.ring_forms.specs.Forms.{within_limits}
 use Rattle.ring_forms.specs.Polynomials.{whole}
 use Rattle.ring_forms.specs.RingForms.{products, form_coefficient, monomials}
 use Rattle.ring_forms.specs.Sums.{Sum, same_product, coefficient}
-use Rattle.ring_forms.proofs.CleanForms.{Clean, Before, order, products_of, hit, at_key, own, passed, met, before_none, one_number, small_residue, zero_residue, stands}
+use Rattle.ring_forms.proofs.CleanForms.{Clean, Before, order, products_of, hit, at_key, own, passed, one_number, small_residue, zero_residue, stands}
 use Rattle.ring_forms.proofs.FixedTables.{total, numbers, StandsFor}
 use Rattle.ring_forms.proofs.FormLemmas.{same_numbers}
 use Rattle.ring_forms.proofs.FormLimits.{same_numbered, numbered, keys, coefficient_numbered, unmet, same_residue, as_many, as_small, found, holds_of_members}

@@ -1,13 +1,12 @@
 -- The form of a term over a table that has its atoms: it has the coefficients of the term
 -- multiplied out.
-use Rattle.std.proofs.Common.{◌≡◌, ℕ, ◌+◌, ◌<◌, ◌^◌, Bool, true, false, cond, List, [], ◌∷◌, ◌++◌, map, refl, sym, ap, subst, ◌∙◌, arith}
+use Rattle.std.proofs.Common.{◌≡◌, ℕ, ◌<◌, ◌^◌, Bool, true, false, cond, List, [], ◌∷◌, ◌++◌, map, refl, sym, ap, subst, ◌∙◌, arith}
 use Rattle.std.specs.Prelude.{ℤ, pos, negsuc, neg_ℤ, ◌+ℤ◌, ◌*ℤ◌, unwrap_or}
 use Rattle.std.proofs.lemmas.Int.{ints}
 use Rattle.pm_ops.specs.declared.code.Code.{Code}
 use Rattle.pm_ops.specs.declared.code.Code.TheVariants.{Minus, Mult, Negate, BitNot, Lshift}
 use Rattle.pm_wide.specs.Congruence.{Congruent}
-use Rattle.pm_wide.specs.Types.{Ty}
-use Rattle.pm_wide.proofs.Congruence.{same, turned, joined, sums, negatives}
+use Rattle.pm_wide.proofs.Congruence.{same, joined, sums, negatives}
 use Rattle.pm_wide.proofs.Whole.{mul_comm, mul_assoc, mul-add, neg-mul, one-mul}
 use Rattle.pm_term.specs.Trees.{Tree, name, constant, node, Trees, nil, cons, type_of}
 use Rattle.ring_forms.specs.declared.atom.Atom.{Atom}
@@ -16,12 +15,12 @@ use Rattle.ring_forms.specs.declared.atom.AtomOperand.{AtomOperand}
 use Rattle.ring_forms.specs.declared.form.Part.{Part}
 use Rattle.ring_forms.specs.Atoms.{atom_number}
 use Rattle.ring_forms.specs.Forms.{constant_form, atom_form, sum_form, negated_form, product_form, joined_atoms}
-use Rattle.ring_forms.specs.RingForms.{goes_by_parts, constant_places, unary_sum, binary_sum, combined_sum, atom, expanded, all_expanded}
+use Rattle.ring_forms.specs.RingForms.{goes_by_parts, constant_places, unary_sum, binary_sum, atom, expanded}
 use Rattle.ring_forms.specs.TableForms.{unary_form, binary_form, combined_form}
 use Rattle.ring_forms.specs.Sums.{Sum, negated, scaled, product}
 use Rattle.ring_forms.proofs.CleanForms.{Clean, AreClean, constant_clean, atom_clean, combined_clean}
 use Rattle.ring_forms.proofs.FormTotals.{form_total, equal_congruent, constant_total, atom_total, sum_total, negated_total, times_form, product_total, congruent_counts}
-use Rattle.ring_forms.proofs.Products.{key, key-append, sorted, sorted_itself, sorted_rising}
+use Rattle.ring_forms.proofs.Products.{key, key-append, sorted_itself, sorted_rising}
 
 abbrev mutual
   pub form_over : List Atom → ℕ → Tree → List Part

@@ -2,11 +2,10 @@
 -- the forms that stand for them are, and a sum is within the limits where its form is.
 use Rattle.std.proofs.Common.{◌≡◌, ℕ, ◌==◌, Bool, true, false, not, cond, ◌&&◌, ◌||◌, List, [], ◌∷◌, ◌++◌, map, length, refl, sym, ap, ◌∙◌, eq-eqb, eqb-true, subst, arith, suc, ◌+◌}
 use Rattle.std.specs.Prelude.{ℤ, pos, ◌+ℤ◌, ◌*ℤ◌, nat_le, nat_eq}
-use Rattle.std.specs.Bool.{Decides}
-use Rattle.std.specs.Cmp.{IsEquivalence, both_ways}
+use Rattle.std.specs.Cmp.{both_ways}
 use Rattle.std.specs.Cmp.Lexicographic.{slice_cmp, pointwise, nat_list_eq_equiv, texts_ties}
-use Rattle.std.specs.List.{list_all, list_any, filter, IsDistinct, AllByRecursion}
-use Rattle.std.specs.Ordering.{nat_cmp, eq_by_cmp}
+use Rattle.std.specs.List.{list_all, list_any, filter, IsDistinct}
+use Rattle.std.specs.Ordering.{nat_cmp}
 use Rattle.std.specs.Set.{is_member, unique_keys, distinct_count}
 use Rattle.std.proofs.lemmas.Bool.{and_parts, and_from}
 use Rattle.std.proofs.lemmas.Int.{ints}
@@ -28,7 +27,7 @@ use Rattle.ring_forms.proofs.AtomLemmas.{form_decides}
 use Rattle.ring_forms.proofs.CleanForms.{Clean, products_of, strictly_sorted, hit, at_key, one_form, stands, zero_residue}
 use Rattle.ring_forms.proofs.FixedTables.{total, numbers, StandsFor}
 use Rattle.ring_forms.proofs.FormLemmas.{same_numbers, numbers_same}
-use Rattle.ring_forms.proofs.Products.{by_number, same_key, sorted}
+use Rattle.ring_forms.proofs.Products.{by_number, same_key}
 
 one_residue : (m : ℕ) (a b : ℤ) → Congruent m a b → residue m a ≡ residue m b
 one_residue m a b h = same_word (record { width = m; unsigned = true }) a b h

@@ -1,7 +1,7 @@
 -- The total of a form where each product counts some whole number, and what sums and products of
 -- forms do to it modulo 2 ^ m.
 use Rattle.std.proofs.Common.{◌≡◌, ℕ, ◌==◌, Bool, true, false, cond, List, [], ◌∷◌, refl, sym, ap, subst, ◌∙◌, arith}
-use Rattle.std.specs.Prelude.{ℤ, pos, neg_ℤ, ◌+ℤ◌, ◌-ℤ◌, ◌*ℤ◌, nat_le}
+use Rattle.std.specs.Prelude.{ℤ, pos, neg_ℤ, ◌+ℤ◌, ◌-ℤ◌, ◌*ℤ◌}
 use Rattle.std.specs.Cmp.Lexicographic.{slice_cmp}
 use Rattle.std.specs.Ordering.{nat_cmp}
 use Rattle.std.specs.declared.cmp.Ordering.{Ordering}
@@ -12,9 +12,9 @@ use Rattle.pm_wide.specs.Congruence.{Congruent}
 use Rattle.pm_wide.specs.Residues.{residue}
 use Rattle.pm_wide.proofs.Congruence.{same, joined, sums, times, products}
 use Rattle.pm_wide.proofs.Residues.{residue_congruent}
-use Rattle.pm_wide.proofs.Whole.{mul_comm, mul_assoc, add-mul, mul-add, neg-mul, one-mul, mul-one}
+use Rattle.pm_wide.proofs.Whole.{mul_comm, mul_assoc, add-mul, mul-add, neg-mul, one-mul}
 use Rattle.ring_forms.specs.declared.form.Part.{Part}
-use Rattle.ring_forms.specs.Forms.{part_of, placed, with_part, with_product, constant_form, atom_form, sum_form, negated_form, with_atom, joined_atoms, part_times, form_times, product_form}
+use Rattle.ring_forms.specs.Forms.{part_of, placed, with_part, with_product, constant_form, atom_form, sum_form, negated_form, joined_atoms, part_times, form_times, product_form}
 use Rattle.ring_forms.proofs.FormLemmas.{equal_is}
 
 -- the sum of the parts' coefficients, each times what its product counts

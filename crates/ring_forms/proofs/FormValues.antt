@@ -31,7 +31,7 @@ module _ (v : ℕ → ℤ) (m : ℕ) where
       by true e = refl
       by false e = ap (λ x. v b *ℤ x) e ∙ sym (mul_assoc (v b) (v a) (atoms_value v bs)) ∙ ap (λ x. x *ℤ atoms_value v bs) (mul_comm (v b) (v a)) ∙ mul_assoc (v a) (v b) (atoms_value v bs)
 
-  joined_value : (xs ys : List ℕ) → atoms_value v (joined_atoms xs ys) ≡ atoms_value v xs *ℤ atoms_value v ys
+  pub joined_value : (xs ys : List ℕ) → atoms_value v (joined_atoms xs ys) ≡ atoms_value v xs *ℤ atoms_value v ys
   joined_value [] ys = sym (one-mul (atoms_value v ys))
   joined_value (x ∷ xs) ys =
       joined_value xs (with_atom x ys) ∙ ap (λ z. atoms_value v xs *ℤ z) (with_atom_value x ys) ∙ sym (mul_assoc (atoms_value v xs) (v x) (atoms_value v ys))

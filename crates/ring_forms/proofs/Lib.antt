@@ -1,10 +1,12 @@
 pub mod Agreement
 pub mod AtomLemmas
 pub mod CleanForms
+pub mod ExactLaw
 pub mod ExactLimits
 pub mod ExactPolynomials
 pub mod ExactReadings
 pub mod ExactSums
+pub mod ExactValues
 pub mod FixedTables
 pub mod FormBounds
 pub mod FormLemmas
@@ -12,6 +14,7 @@ pub mod FormLimits
 pub mod FormTotals
 pub mod FormValues
 pub mod MetAtoms
+pub mod PolynomialLaw
 pub mod Products
 pub mod RankOrder
 pub mod Readings

@@ -1,12 +1,11 @@
 -- The nodes that are kept when an exact form is read are the atoms of the term as they are first met,
 -- and an atom's number is its place among them.
-use Rattle.std.proofs.Common.{◌≡◌, ℕ, zero, suc, ◌<◌, ◌≤◌, ◌==◌, Bool, true, false, not, cond, ◌&&◌, ◌||◌, List, [], ◌∷◌, ◌++◌, map, length, refl, sym, ap, subst, ◌∙◌, arith, eq-eqb}
+use Rattle.std.proofs.Common.{◌≡◌, ℕ, zero, suc, ◌<◌, ◌≤◌, ◌==◌, Bool, true, false, not, cond, ◌&&◌, ◌||◌, List, [], ◌∷◌, ◌++◌, map, length, refl, sym, ap, subst, ◌∙◌, arith}
 use Rattle.std.specs.Prelude.{bytes_eq, ⊤}
 use Rattle.std.specs.List.{list_any, AllByRecursion}
 use Rattle.std.proofs.lemmas.Bool.Decides.{nat_tests}
-use Rattle.pm_ops.specs.declared.code.Code.{Code}
 use Rattle.pm_ops.specs.Names.{code_name}
-use Rattle.pm_wide.specs.Types.{Ty, same_type}
+use Rattle.pm_wide.specs.Types.{same_type}
 use Rattle.pm_term.specs.Trees.{Tree, name, constant, node, Trees, nil, cons, operations, operations_of, IsWellTyped, AreWellTyped}
 use Rattle.ring_forms.specs.declared.atom.Atom.{Atom}
 use Rattle.ring_forms.specs.declared.atom.Atom.TheVariants.{Name, Operation}
@@ -16,7 +15,7 @@ use Rattle.ring_forms.specs.ExactForms.{goes_exactly, atoms_in, atoms_of, with_m
 use Rattle.ring_forms.specs.ExactTables.{with_node, met}
 use Rattle.ring_forms.specs.RingForms.{same_atom}
 use Rattle.ring_forms.proofs.Agreement.{all_append}
-use Rattle.ring_forms.proofs.ExactReadings.{Further, afterwards, all_afterwards, now_met, with_atom_met, goes_further, all_further}
+use Rattle.ring_forms.proofs.ExactReadings.{afterwards, all_afterwards, with_atom_met, all_further}
 use Rattle.ring_forms.proofs.FixedTables.{operands_over, entry}
 use Rattle.ring_forms.proofs.Readings.{Extends, HasFull, further, after_full, has_full_after, kept_operands, kept_has_full}
 use Rattle.ring_forms.proofs.SameAtoms.{operands_are, atoms_agree}

@@ -12,7 +12,7 @@ use Rattle.ring_forms.specs.Atoms.{same_entry, atom_number, with_new_atom}
 use Rattle.ring_forms.specs.Forms.{atom_form, within_limits}
 use Rattle.ring_forms.specs.RingForms.{goes_by_parts, constant_places}
 use Rattle.ring_forms.specs.TableForms.{combined_form, combined, atomic, put_first, and_forms, and_operands, ring_form, ring_forms, operand_forms}
-use Rattle.ring_forms.proofs.AtomLemmas.{number_here, atom_decides}
+use Rattle.ring_forms.proofs.AtomLemmas.{number_here}
 use Rattle.ring_forms.proofs.FixedTables.{form_over, forms_over, operands_over}
 use Rattle.ring_forms.proofs.Tables.{number_below, new_longer}
 

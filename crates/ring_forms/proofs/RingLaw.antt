@@ -66,20 +66,20 @@ small_value t n k h = by t.unsigned refl
 
 module _ (words : ℕ → Ty → Word) (given : (version : ℕ) (ty : Ty) → IsType ty → ((words version ty).ty ≡ ty) × IsWord (words version ty)) where
   -- what a form of a term says: it goes by the table that it leaves, and is congruent to the value
-  record FormOf (m : ℕ) (table : List Atom) (t : Tree) (r : List Part × List Atom) : Type 0 where
-    longer : length table ≤ length r.1
-    earlier : (v : ℕ → ℤ) → ConsistentFrom words v 0 r.1 → ConsistentFrom words v 0 table
-    ordered : OrderedFrom 0 table → OrderedFrom 0 r.1
-    below : FormBelow (length r.1) r.0
-    means : m ≤ (type_of t).width → (v : ℕ → ℤ) → ConsistentFrom words v 0 r.1 → (w : Word) → term_value words t ≡ Some w → Congruent m (value w) (form_value v r.0)
+  pub record FormOf (m : ℕ) (table : List Atom) (t : Tree) (r : List Part × List Atom) : Type 0 where
+    pub longer : length table ≤ length r.1
+    pub earlier : (v : ℕ → ℤ) → ConsistentFrom words v 0 r.1 → ConsistentFrom words v 0 table
+    pub ordered : OrderedFrom 0 table → OrderedFrom 0 r.1
+    pub below : FormBelow (length r.1) r.0
+    pub means : m ≤ (type_of t).width → (v : ℕ → ℤ) → ConsistentFrom words v 0 r.1 → (w : Word) → term_value words t ≡ Some w → Congruent m (value w) (form_value v r.0)
 
   -- the same of an atom's operands: their forms give their words
-  record OperandsOf (table : List Atom) (ts : Trees) (r : List AtomOperand × List Atom) : Type 0 where
-    longer : length table ≤ length r.1
-    earlier : (v : ℕ → ℤ) → ConsistentFrom words v 0 r.1 → ConsistentFrom words v 0 table
-    ordered : OrderedFrom 0 table → OrderedFrom 0 r.1
-    below : OperandsBelow (length r.1) r.0
-    means : (v : ℕ → ℤ) → ConsistentFrom words v 0 r.1 → (ws : List Word) → term_values words ts ≡ Some ws → operand_words v r.0 ≡ ws
+  pub record OperandsOf (table : List Atom) (ts : Trees) (r : List AtomOperand × List Atom) : Type 0 where
+    pub longer : length table ≤ length r.1
+    pub earlier : (v : ℕ → ℤ) → ConsistentFrom words v 0 r.1 → ConsistentFrom words v 0 table
+    pub ordered : OrderedFrom 0 table → OrderedFrom 0 r.1
+    pub below : OperandsBelow (length r.1) r.0
+    pub means : (v : ℕ → ℤ) → ConsistentFrom words v 0 r.1 → (ws : List Word) → term_values words ts ≡ Some ws → operand_words v r.0 ≡ ws
 
   -- ---- atoms
 
@@ -324,7 +324,7 @@ module _ (words : ℕ → Ty → Word) (given : (version : ℕ) (ty : Ty) → Is
         (atomic_law m table code ty (cons t (cons u (cons s nil))) (operand_forms (cons t (cons u (cons s nil))) table) (operands_law (cons t (cons u (cons s nil))) w.2 table))
     ring_law (node code ty (cons t (cons u (cons s (cons r rs))))) w m table = absurd_typed w.1
 
-    operands_law : (ts : Trees) → AreWellTyped ts → (table : List Atom) → IfSome (operand_forms ts table) (OperandsOf table ts)
+    pub operands_law : (ts : Trees) → AreWellTyped ts → (table : List Atom) → IfSome (operand_forms ts table) (OperandsOf table ts)
     operands_law nil w table = record {
       longer = le_self (length table);
       earlier = λ v c. c;

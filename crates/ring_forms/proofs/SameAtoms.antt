@@ -1,30 +1,27 @@
 -- Atoms are the same exactly where they have one number in a table that has them; so what is read
 -- over tables is what the definition of ring forms says.
-use Rattle.std.proofs.Common.{◌≡◌, ℕ, zero, suc, ◌+◌, ◌<◌, ◌≤◌, ◌==◌, Bool, true, false, cond, ◌&&◌, Option, Some, None, List, [], ◌∷◌, ◌++◌, length, refl, sym, ap, subst, ◌∙◌, arith, eq-eqb, eqb-true}
-use Rattle.std.specs.Prelude.{⊤, IsTrue, bytes_eq, nat_eq, unwrap_or, pos, negsuc, ◌^◌}
+use Rattle.std.proofs.Common.{◌≡◌, ℕ, zero, suc, ◌+◌, ◌<◌, ◌==◌, Bool, true, false, cond, ◌&&◌, Option, Some, None, List, [], ◌∷◌, length, refl, sym, ap, subst, ◌∙◌, arith, eq-eqb, eqb-true}
+use Rattle.std.specs.Prelude.{IsTrue, bytes_eq, unwrap_or, pos, ◌^◌}
 use Rattle.std.specs.Cmp.{both_ways}
 use Rattle.std.specs.Cmp.Lexicographic.{pointwise}
-use Rattle.std.specs.List.{AllByRecursion}
-use Rattle.std.proofs.lemmas.Bool.{and_parts, and_from}
 use Rattle.pm_ops.specs.declared.code.Code.{Code}
 use Rattle.pm_ops.specs.declared.code.Code.TheVariants.{Minus, Mult, Negate, BitNot, Lshift}
 use Rattle.pm_ops.specs.Names.{code_name}
-use Rattle.pm_wide.specs.Types.{Ty, IsType, same_type}
+use Rattle.pm_wide.specs.Types.{Ty, same_type}
 use Rattle.pm_wide.proofs.Results.{same_type_is}
 use Rattle.pm_wide.proofs.Values.{width_positive}
 use Rattle.pm_term.specs.Trees.{Tree, name, constant, node, Trees, nil, cons, type_of, operations, operations_of, IsWellTyped, AreWellTyped}
 use Rattle.ring_forms.specs.declared.atom.Atom.{Atom}
 use Rattle.ring_forms.specs.declared.atom.Atom.TheVariants.{Name, Operation}
-use Rattle.ring_forms.specs.declared.atom.AtomOperand.{AtomOperand}
 use Rattle.ring_forms.specs.declared.form.Part.{Part}
 use Rattle.ring_forms.specs.Atoms.{same_parts, same_entry_operand, same_entry, atom_number}
 use Rattle.ring_forms.specs.Forms.{within_limits}
-use Rattle.ring_forms.specs.RingForms.{goes_by_parts, constant_places, unary_sum, binary_sum, combined_sum, atom, expanded, all_expanded, same_form, is_within, has_form, have_forms, have_full_forms, same_operands, same_by, same_atom, same_within, AreRingEqual}
-use Rattle.ring_forms.specs.Sums.{Sum, negated, scaled, product}
+use Rattle.ring_forms.specs.RingForms.{goes_by_parts, constant_places, unary_sum, binary_sum, atom, expanded, same_form, is_within, has_form, have_forms, have_full_forms, same_operands, same_atom, same_within, AreRingEqual}
+use Rattle.ring_forms.specs.Sums.{Sum, negated}
 use Rattle.ring_forms.specs.TableForms.{ring_form, HaveOneForm, AreEqualOverTable}
 use Rattle.ring_forms.proofs.Agreement.{Factors, negated_factors, scaled_factors, append_factors, product_factors, form_agree, within_agree}
 use Rattle.ring_forms.proofs.AtomLemmas.{atom_decides, form_decides}
-use Rattle.ring_forms.proofs.FixedTables.{form_over, forms_over, operands_over, entry, number, stands_for, clean_over}
+use Rattle.ring_forms.proofs.FixedTables.{form_over, operands_over, number, stands_for, clean_over}
 use Rattle.ring_forms.proofs.FormLimits.{same_numbered, one_form_decides, within_is}
 use Rattle.ring_forms.proofs.Readings.{IsIn, Extends, Has, HasAll, HasFull, limited_over, all_limited, full_limited, kept_form, kept_has, kept_limited, after, after_extends, has_after, ring_form_is}
 

@@ -13,7 +13,7 @@ use Rattle.pm_term.specs.Trees.{Tree, name, constant, node, Trees, nil, cons, ty
 use Rattle.ring_forms.specs.declared.poly.Atom.{Atom}
 use Rattle.ring_forms.specs.declared.poly.Monomial.{Monomial}
 use Rattle.ring_forms.specs.RingForms.{combined_sum, atom, products, have_full_forms, same_atom}
-use Rattle.ring_forms.specs.Sums.{Sum, times_in, same_product, coefficient}
+use Rattle.ring_forms.specs.Sums.{Sum, same_product, coefficient}
 
 -- whether the exact form of an operation is made of the forms of its operands
 abbrev pub goes_exactly : Code → Bool

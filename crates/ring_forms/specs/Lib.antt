@@ -4,6 +4,7 @@ pub mod ExactTables
 pub mod Forms
 pub mod Places
 pub mod Polynomials
+pub mod PolynomialValues
 pub mod RingForms
 pub mod Sums
 pub mod TableForms

@@ -1,6 +1,6 @@
 -- How the code makes a polynomial of a form: powers stand still at the end of a usize, and a power is
 -- kept as a byte.
-use Rattle.std.specs.Prelude.{ℕ, suc, ◌+◌, ◌-◌, ◌^◌, ◌==◌, nat_lt, min, Bool, if◌then◌else◌, Option, Some, None, List, [], ◌∷◌, length, map, slice_get, ℤ, pos, neg_ℤ}
+use Rattle.std.specs.Prelude.{ℕ, suc, ◌+◌, ◌-◌, ◌^◌, ◌==◌, nat_lt, min, if◌then◌else◌, Option, Some, None, List, [], ◌∷◌, length, map, slice_get, ℤ, pos, neg_ℤ}
 use Rattle.std.specs.Cmp.Lexicographic.{slice_cmp}
 use Rattle.std.specs.Ordering.{nat_cmp, is_gt}
 use Rattle.pm_term.specs.Trees.{Tree}

@@ -1,7 +1,7 @@
 -- How the code reads a term: its form goes by numbers of atoms in a table, to which it adds.
-use Rattle.std.specs.Prelude.{ℕ, ◌≡◌, ◌^◌, nat_lt, nat_le, Bool, true, false, if◌then◌else◌, Option, Some, None, List, [], ◌∷◌, pos, negsuc, is_some, unwrap_or}
+use Rattle.std.specs.Prelude.{ℕ, ◌≡◌, ◌^◌, if◌then◌else◌, Option, Some, None, List, [], ◌∷◌, pos, negsuc, unwrap_or}
 use Rattle.pm_ops.specs.declared.code.Code.{Code}
-use Rattle.pm_ops.specs.declared.code.Code.TheVariants.{Convert, Plus, Minus, Mult, Negate, BitNot, Lshift}
+use Rattle.pm_ops.specs.declared.code.Code.TheVariants.{Minus, Mult, Negate, BitNot, Lshift}
 use Rattle.pm_wide.specs.Types.{Ty}
 use Rattle.pm_term.specs.Trees.{Tree, name, constant, node, Trees, nil, cons, type_of}
 use Rattle.ring_forms.specs.declared.form.Part.{Part}

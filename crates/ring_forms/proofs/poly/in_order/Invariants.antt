@@ -1,4 +1,4 @@
-use Rattle.std.proofs.Common.{◌≡◌, ◌-◌, ◌≤◌, drop, length}
+use Rattle.std.proofs.Common.{◌≡◌, ◌-◌, drop, length}
 use Rattle.ring_forms.specs.Polynomials.{in_rank_order}
 use Rattle.ring_forms.proofs.poly.in_order.Given as goal
 
