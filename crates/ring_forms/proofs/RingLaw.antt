@@ -26,9 +26,10 @@ use Rattle.ring_forms.specs.declared.atom.AtomOperand.{AtomOperand}
 use Rattle.ring_forms.specs.declared.form.Part.{Part}
 use Rattle.ring_forms.specs.Atoms.{atom_number, with_new_atom}
 use Rattle.ring_forms.specs.Forms.{constant_form, atom_form, negated_form, product_form, within_limits}
+use Rattle.ring_forms.specs.PolynomialValues.{value_or_zero}
 use Rattle.ring_forms.specs.RingForms.{constant_places, small_constant, goes_by_parts}
 use Rattle.ring_forms.specs.TableForms.{unary_form, binary_form, limited, combined, atomic, put_first, and_forms, and_operands, ring_form, operand_forms, HaveOneForm, AreEqualOverTable}
-use Rattle.ring_forms.proofs.FormBounds.{FormBelow, OperandsBelow, AtomBelow, more_form, constant_below, unary_below, binary_below, operand_words, value_or_zero, atom_value}
+use Rattle.ring_forms.proofs.FormBounds.{FormBelow, OperandsBelow, AtomBelow, more_form, constant_below, unary_below, binary_below, operand_words, atom_value}
 use Rattle.ring_forms.proofs.FormTotals.{equal_congruent, sum_total, negated_total}
 use Rattle.ring_forms.proofs.FormValues.{atoms_value, form_value, constant_value, atom_value_is, product_value}
 use Rattle.ring_forms.proofs.Tables.{OrderedFrom, ConsistentFrom, number_below, new_longer, new_ordered, older, newest, at, values_from, consistent}
