@@ -1,6 +1,7 @@
 pub mod Agreement
 pub mod AtomLemmas
 pub mod CleanForms
+pub mod DepthLaw
 pub mod ExactLaw
 pub mod ExactLimits
 pub mod ExactPolynomials
