@@ -1,0 +1,2 @@
+-- Exactness of each reader.
+pub mod ReaderLemmas

@@ -1,0 +1,72 @@
+//! Trees of C parts as they are written: each leaf, operator and call keeps its place in the source.
+
+use pm_items::{Boxed, Items};
+use pm_places::Span;
+
+/// An operator between two operands.
+#[derive(Clone, Copy, Debug, PartialEq, Eq)]
+pub enum BinaryOperator {
+    /// `||`
+    Or,
+    /// `&&`
+    And,
+    /// `|`
+    BitOr,
+    /// `^`
+    BitXor,
+    /// `&`
+    BitAnd,
+    /// `==`
+    Equal,
+    /// `!=`
+    NotEqual,
+    /// `<`
+    Less,
+    /// `<=`
+    LessEqual,
+    /// `>`
+    Greater,
+    /// `>=`
+    GreaterEqual,
+    /// `+`
+    Plus,
+    /// `-`
+    Minus,
+    /// `*`
+    Times,
+}
+
+/// An operator before an operand.
+#[derive(Clone, Copy, Debug, PartialEq, Eq)]
+pub enum UnaryOperator {
+    /// `!`
+    Not,
+    /// `~`
+    Complement,
+    /// `-`
+    Negate,
+}
+
+/// The name of a call, and the `wi` before its `::`, where they are written.
+#[derive(Clone, Copy, Debug, PartialEq, Eq)]
+pub struct Callee {
+    pub wide: Option<Span>,
+    pub name: Span,
+}
+
+/// An expression.
+#[derive(Drop)]
+pub enum ExprText {
+    Number(Span),
+    /// `@0`
+    Capture(Span),
+    Name(Span),
+    /// `(a)`, with the place of the `(`.
+    Parens(Span, Boxed<ExprText>),
+    Unary(UnaryOperator, Span, Boxed<ExprText>),
+    Binary(BinaryOperator, Span, Boxed<ExprText>, Boxed<ExprText>),
+    /// `c ? a : b`, with the place of the `?`.
+    Choose(Span, Boxed<ExprText>, Boxed<ExprText>, Boxed<ExprText>),
+    /// `name (a, b)`, `wi::name (a, b)`
+    Call(Callee, Items<ExprText>),
+}
