@@ -60,7 +60,7 @@ abbrev mutual
   -- (',' b)*
   pub SpellsFurther : Exprs → List Symbol → Type 0
   SpellsFurther nil w = w ≡ []
-  SpellsFurther (cons e es) w = (AMark marks.Comma ▸ Spells e ▸ SpellsFurther es) w
+  SpellsFurther (cons e es) w = ((AMark marks.Comma ▸ Spells e) ▸ SpellsFurther es) w
 
 -- an expression that binds at least as tight as this rank
 abbrev pub Within : ℕ → Expr → List Symbol → Type 0
