@@ -25,7 +25,8 @@ use Rattle.cond_subset.specs.Trees.{Expr, number, capture, named, parens, unary,
 use Rattle.cond_subset.specs.Grammar.{◌▸◌, AMark, SpellsWide, SpellsCallee, Spells, SpellsArgs, SpellsFurther, Within}
 use Rattle.cond_subset.specs.Readers.{Inner, Read, is_comma, further_at, args_at, closed_at, call_at}
 use Rattle.cond_subset.proofs.SymbolsExact.{some_mark}
-use Rattle.cond_subset.proofs.Ranks.{rank_small, GoesOn, close_apart, comma_apart}
+use Rattle.cond_subset.specs.GoesOn.{GoesOn}
+use Rattle.cond_subset.proofs.Ranks.{rank_small, close_apart, comma_apart}
 use Rattle.cond_subset.proofs.LinksExact.{some_expression}
 
 -- lists of arguments

@@ -9,7 +9,7 @@ use Rattle.pd_text.specs.declared.symbol.Symbol.{Symbol}
 use Rattle.cond_subset.specs.Trees.{Expr}
 use Rattle.cond_subset.specs.Grammar.{Within}
 use Rattle.cond_subset.specs.Readers.{Inner, operand_at, links_at, within_at, readers}
-use Rattle.cond_subset.proofs.Ranks.{GoesOn}
+use Rattle.cond_subset.specs.GoesOn.{GoesOn}
 use Rattle.cond_subset.proofs.LinksExact.{Continued, continued_far, some_continued, links_exact}
 use Rattle.cond_subset.proofs.Grouping.{grouped, of_grouped}
 use Rattle.cond_subset.proofs.OperandsExact.{operand_exact}

@@ -23,7 +23,8 @@ use Rattle.cond_subset.specs.Trees.{Expr, number, capture, named, parens, unary,
 use Rattle.cond_subset.specs.Grammar.{rank, Spells, Within}
 use Rattle.cond_subset.specs.Readers.{Inner, Read, and_rest, operated, operator_here, right_at, operator_step, chain_at, choice_at, link_at, links_at}
 use Rattle.cond_subset.proofs.SymbolsExact.{somewhere, some_mark}
-use Rattle.cond_subset.proofs.Ranks.{operator_rank, rank_small, same_number, other_number, ranked_is, is_ranked, IsCall, IsQuestion, GoesOn, goes_on_further, ranked_apart, ranked_goes_on, question_apart, question_goes_on, question_is, colon_apart}
+use Rattle.cond_subset.specs.GoesOn.{IsCall, IsQuestion, GoesOn}
+use Rattle.cond_subset.proofs.Ranks.{operator_rank, rank_small, same_number, other_number, ranked_is, is_ranked, goes_on_further, ranked_apart, ranked_goes_on, question_apart, question_goes_on, question_is, colon_apart}
 
 -- relations
 

@@ -26,7 +26,8 @@ use Rattle.cond_subset.specs.Trees.{Expr, number, capture, named, parens, unary,
 use Rattle.cond_subset.specs.Grammar.{◌▸◌, AMark, SpellsWide, SpellsCallee, Spells, Within}
 use Rattle.cond_subset.specs.Readers.{Inner, Read, closed_at, call_at, named_at, wide_at, after_wide_at, parens_at, under_at, prefixed_at, capture_at, operand_at}
 use Rattle.cond_subset.proofs.SymbolsExact.{somewhere, some_mark, some_identifier}
-use Rattle.cond_subset.proofs.Ranks.{operator_rank, rank_small, IsCall, GoesOn, close_apart}
+use Rattle.cond_subset.specs.GoesOn.{IsCall, GoesOn}
+use Rattle.cond_subset.proofs.Ranks.{operator_rank, rank_small, close_apart}
 use Rattle.cond_subset.proofs.LinksExact.{some_expression}
 use Rattle.cond_subset.proofs.ArgumentsExact.{Closed, some_closed, closed_exact, of_closed, closed_of, ends}
 

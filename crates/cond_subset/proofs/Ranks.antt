@@ -12,6 +12,7 @@ use Rattle.cond_subset.specs.declared.tree.BinaryOperator.TheVariants as binarie
 use Rattle.cond_subset.specs.Operators.{binary_mark, binary_operator, rank_of, of_rank, ranked}
 use Rattle.cond_subset.specs.Trees.{Expr, binary}
 use Rattle.cond_subset.specs.Grammar.{rank}
+use Rattle.cond_subset.specs.GoesOn.{IsCall, IsQuestion, IsOperator, GoesOn}
 
 pub operator_rank : (op : BinaryOperator) → (1 ≤ rank_of op) × (rank_of op ≤ 9)
 operator_rank binaries.Times = (omega arith, omega arith)
@@ -48,24 +49,6 @@ ranked_is r t op e = of_rank_is r (binary_operator t) op e
 pub is_ranked : (r : ℕ) (t : Symbol) (op : BinaryOperator × Span) → binary_operator t ≡ Some op → rank_of op.0 ≡ r → ranked r t ≡ Some op
 is_ranked r t op e same =
     ap (of_rank r) e ∙ ap (λ b. if b then Some op else None) (number_is (rank_of op.0) r same)
-
--- `(` after a name, and `::` after `wi`
-abbrev pub IsCall : Symbol → Type 0
-IsCall (symbols.Mark marks.Open at) = Unit {0}
-IsCall (symbols.Mark marks.DoubleColon at) = Unit {0}
-IsCall t = ⊥
-
-abbrev pub IsQuestion : Symbol → Type 0
-IsQuestion (symbols.Mark marks.Question at) = Unit {0}
-IsQuestion t = ⊥
-
--- an operator of at most this rank
-abbrev pub IsOperator : ℕ → Symbol → Type 0
-IsOperator r t = (op : BinaryOperator × Span) × (binary_operator t ≡ Some op) × (rank_of op.0 ≤ r)
-
--- what can go on an expression of at most this rank
-abbrev pub GoesOn : ℕ → Symbol → Type 0
-GoesOn r t = IsCall t ⊎ (IsOperator r t ⊎ (IsQuestion t × (10 ≤ r)))
 
 pub goes_on_further : (k : ℕ) (t : Symbol) → GoesOn k t → GoesOn (suc k) t
 goes_on_further k t (inl opens) = inl opens

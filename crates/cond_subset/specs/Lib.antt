@@ -3,3 +3,7 @@ pub mod Trees
 pub mod Operators
 pub mod Grammar
 pub mod Readers
+pub mod GoesOn
+pub mod Declarations
+pub mod Words
+pub mod DeclarationReaders

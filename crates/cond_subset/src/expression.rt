@@ -18,7 +18,7 @@ use pm_places::Span;
 use std::alloc::Global;
 
 /// Whether a comma stands here.
-fn begins_further(symbols: &[Symbol]) -> bool
+pub(crate) fn begins_further(symbols: &[Symbol]) -> bool
     ensures { result ≡ first_is readers.is_comma symbols.now }
 {
     match symbols {
@@ -29,7 +29,7 @@ fn begins_further(symbols: &[Symbol]) -> bool
 
 /// A comma and an argument.
 #[cycle(expression)]
-fn read_further(
+pub(crate) fn read_further(
     alloc: Global,
     room: usize,
     symbols: &[Symbol],
@@ -301,7 +301,7 @@ fn read_link(
 /// What goes on `first` at each rank up to this one.
 #[cycle(expression)]
 #[tactic(auto, using(crate::proofs::ReaderLemmas::links_stop))]
-fn read_links(
+pub(crate) fn read_links(
     alloc: Global,
     room: usize,
     rank: usize,

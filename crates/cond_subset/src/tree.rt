@@ -70,3 +70,60 @@ pub enum ExprText {
     /// `name (a, b)`, `wi::name (a, b)`
     Call(Callee, Items<ExprText>),
 }
+
+/// The word with which the declaration of a value begins.
+#[derive(Clone, Copy, Debug, PartialEq, Eq)]
+pub enum DeclWord {
+    /// `tree`
+    Tree,
+    /// `wide_int`
+    WideInt,
+    /// `bool`
+    Boolean,
+    /// `int`
+    Int,
+    /// `unsigned`
+    Unsigned,
+    /// `signop`
+    Signop,
+    /// `tree_code`
+    TreeCode,
+}
+
+/// Arithmetic whose overflow a flag can tell.
+#[derive(Clone, Copy, Debug, PartialEq, Eq)]
+pub enum Arithmetic {
+    /// `wi::add`
+    Add,
+    /// `wi::sub`
+    Subtract,
+    /// `wi::mul`
+    Multiply,
+    /// `wi::neg`
+    Negate,
+}
+
+/// A call of such arithmetic: the places of its `wi` and of its name.
+#[derive(Clone, Copy, Debug, PartialEq, Eq)]
+pub struct FlaggedCall {
+    pub operation: Arithmetic,
+    pub wide: Span,
+    pub name: Span,
+}
+
+/// A value that a local is declared to have.
+#[derive(Drop)]
+pub enum ValueText {
+    Plain(ExprText),
+    /// `wi::add (a, b, s, &flag)` and its like: the arguments before the flag, and the flag's name.
+    Flagged(FlaggedCall, Items<ExprText>, Span),
+}
+
+/// A declaration, with the name that it declares.
+#[derive(Drop)]
+pub enum DeclText {
+    /// `int name = value;` and its like.
+    Valued(DeclWord, Span, ValueText),
+    /// `wi::overflow_type name;`
+    Overflow(Span),
+}
