@@ -44,7 +44,7 @@ further_of : (es : List Expr) (w : List Symbol) → Many FurtherArg es w → Spe
 further_of [] w empty = empty
 further_of (e ∷ es) w (u, v, first, others, cut) = (u, v, first, further_of es v others, cut)
 
-args_of : (es : List Expr) (w : List Symbol) → SomeList es w → SpellsArgs (exprs es) w
+pub args_of : (es : List Expr) (w : List Symbol) → SomeList es w → SpellsArgs (exprs es) w
 args_of [] w none = absurd none
 args_of (e ∷ es) w (u, v, first, others, cut) = (u, v, first, further_of es v others, cut)
 
@@ -66,7 +66,7 @@ of_further (cons e es) w (u, v, first, others, cut) = (u, v, first, of_further e
 abbrev pub GoesOnArgs : Symbol → Type 0
 GoesOnArgs t = GoesOn 10 t ⊎ (is_comma t ≡ true)
 
-comma_is : (t : Symbol) (at : Span) → meanings.mark marks.Comma t ≡ Some at → is_comma t ≡ true
+pub comma_is : (t : Symbol) (at : Span) → meanings.mark marks.Comma t ≡ Some at → is_comma t ≡ true
 comma_is (symbols.Mark marks.Comma p) at e = refl
 comma_is t at e = absurd (cc)
 
@@ -74,7 +74,7 @@ close_no_comma : (t : Symbol) (at : Span) → meanings.mark marks.Close t ≡ So
 close_no_comma (symbols.Mark marks.Close p) at e is = cc
 close_no_comma t at e is = absurd (cc)
 
-close_apart_args : (t : Symbol) (at : Span) → meanings.mark marks.Close t ≡ Some at → ¬ GoesOnArgs t
+pub close_apart_args : (t : Symbol) (at : Span) → meanings.mark marks.Close t ≡ Some at → ¬ GoesOnArgs t
 close_apart_args t at e (inl goes_on) = close_apart 10 t at e goes_on
 close_apart_args t at e (inr comma) = close_no_comma t at e comma
 
@@ -84,7 +84,7 @@ further_begins x t w (u, v, (at, comma), spelled, cut) = (at, begins_with (meani
 further_not_empty : (x : Expr) → FurtherArg x [] → ⊥
 further_not_empty x (u, v, (at, comma), spelled, cut) = takes_token (meanings.mark marks.Comma) at u v comma cut
 
-items_begin : (s x : List Expr) (t : Symbol) (w : List Symbol) → Steps (Item FurtherArg) s x (t ∷ w) → (at : Span) × (meanings.mark marks.Comma t ≡ Some at)
+pub items_begin : (s x : List Expr) (t : Symbol) (w : List Symbol) → Steps (Item FurtherArg) s x (t ∷ w) → (at : Span) × (meanings.mark marks.Comma t ≡ Some at)
 items_begin s x t w (stays same empty) = absurd (cc)
 items_begin s x t w (goes {m = m} {u = u} {v = v} (e, (a, b, (at, comma), spelled, inside), now) others cut) =
     (at, begins_with (meanings.mark marks.Comma) at t w a (b ++ v) comma (cut ∙ ap (λ l. l ++ v) inside ∙ append_assoc a b v))
@@ -106,7 +106,7 @@ IsClose t = ⊥
 abbrev pub IsNoClose : Symbol → Type 0
 IsNoClose t = ¬ IsClose t
 
-close_is : (t : Symbol) (at : Span) → meanings.mark marks.Close t ≡ Some at → IsClose t
+pub close_is : (t : Symbol) (at : Span) → meanings.mark marks.Close t ≡ Some at → IsClose t
 close_is (symbols.Mark marks.Close p) at e = tt
 close_is t at e = absurd (cc)
 
@@ -200,7 +200,7 @@ some_args_begun callee x w (args, u, v, list, others, cut) = front_begun IsNoClo
 -- exactness, where the readers one level deeper are exact below a length
 
 module _ (inner : Inner) (bound : ℕ) (good : (r : ℕ) (rest : List Symbol) → length rest < bound → IsExact (Within r) (GoesOn r) rest (inner r rest)) where
-  further_exact : (input : List Symbol) → length input ≤ bound → IsExact FurtherArg (GoesOn 10) input (further_at inner input)
+  pub further_exact : (input : List Symbol) → length input ≤ bound → IsExact FurtherArg (GoesOn 10) input (further_at inner input)
   further_exact input fits =
       parts.in_words (Then (Meant (meanings.mark marks.Comma)) (λ m. Within 10)) FurtherArg (GoesOn 10) input (further_at inner input)
       (λ x w spelled. (spelled.1, spelled.2, (spelled.0, spelled.3), spelled.4.1, spelled.5))
@@ -221,7 +221,7 @@ module _ (inner : Inner) (bound : ℕ) (good : (r : ℕ) (rest : List Symbol) �
       subst (λ a. IsExact (Item FurtherArg before) (GoesOn 10) (t ∷ rest) a) (looked_for (is_comma t) (and_item before (further_at inner (t ∷ rest))) answer e).1
       (item_exact before (t ∷ rest) fits)
 
-  items_exact : (before : List Expr) (input : List Symbol) → length input ≤ bound → IsExact (Steps (Item FurtherArg) before) GoesOnArgs input (more_at is_comma (further_at inner) before input)
+  pub items_exact : (before : List Expr) (input : List Symbol) → length input ≤ bound → IsExact (Steps (Item FurtherArg) before) GoesOnArgs input (more_at is_comma (further_at inner) before input)
   items_exact before input fits =
       repeated (Item FurtherArg) (item_step is_comma (further_at inner)) (GoesOn 10) GoesOnArgs
       (λ s m item. further_not_empty item.0 item.1) (λ t goes_on. inl goes_on)

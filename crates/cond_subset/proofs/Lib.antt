@@ -7,3 +7,4 @@ pub mod Grouping
 pub mod ArgumentsExact
 pub mod OperandsExact
 pub mod ExpressionsExact
+pub mod CallTails

@@ -33,47 +33,47 @@ use Rattle.cond_subset.proofs.ArgumentsExact.{Closed, some_closed, closed_exact,
 
 -- what may stand after the first symbol
 
-abbrev plain : Span → Callee
+abbrev pub plain : Span → Callee
 plain at = record { wide = None; name = at }
 
-abbrev CallRest : Callee → Spelling Symbol Expr
+abbrev pub CallRest : Callee → Spelling Symbol Expr
 CallRest callee = Then (Meant (meanings.mark marks.Open)) (λ o. Closed callee)
 
-abbrev NamedRest : Span → Spelling Symbol Expr
+abbrev pub NamedRest : Span → Spelling Symbol Expr
 NamedRest at = Optional (named at) (CallRest (plain at))
 
-abbrev AfterColons : Span → Spelling Symbol Expr
+abbrev pub AfterColons : Span → Spelling Symbol Expr
 AfterColons at = Then (Meant meanings.identifier) (λ name. CallRest (record { wide = Some at; name = name }))
 
-abbrev Prefixed : Span → Spelling Symbol Expr
+abbrev pub Prefixed : Span → Spelling Symbol Expr
 Prefixed at = Then (Meant (meanings.mark marks.DoubleColon)) (λ d. AfterColons at)
 
-abbrev WideRest : Span → Spelling Symbol Expr
+abbrev pub WideRest : Span → Spelling Symbol Expr
 WideRest at = Optional (named at) (Either (CallRest (plain at)) (Prefixed at))
 
-abbrev ToClose : Span → Expr → Spelling Symbol Expr
+abbrev pub ToClose : Span → Expr → Spelling Symbol Expr
 ToClose at a = Then (Meant (meanings.mark marks.Close)) (λ k. Nothing (parens at a))
 
-abbrev ParensRest : Span → Spelling Symbol Expr
+abbrev pub ParensRest : Span → Spelling Symbol Expr
 ParensRest at = Then (Within 10) (ToClose at)
 
-abbrev PrefixRest : Option UnaryOperator → Span → Spelling Symbol Expr
+abbrev pub PrefixRest : Option UnaryOperator → Span → Spelling Symbol Expr
 PrefixRest None at x w = ⊥
 PrefixRest (Some op) at x w = Mapped (λ a. unary op at a) (Within 0) x w
 
-abbrev CaptureRest : Option Span → Spelling Symbol Expr
+abbrev pub CaptureRest : Option Span → Spelling Symbol Expr
 CaptureRest None x w = ⊥
 CaptureRest (Some at) x w = Nothing (capture at) x w
 
-abbrev AfterWord : Word → Span → Spelling Symbol Expr
+abbrev pub AfterWord : Word → Span → Spelling Symbol Expr
 AfterWord words.Wide at = WideRest at
 AfterWord found at = NamedRest at
 
-abbrev AfterMark : Mark → Span → Spelling Symbol Expr
+abbrev pub AfterMark : Mark → Span → Spelling Symbol Expr
 AfterMark marks.Open at = ParensRest at
 AfterMark found at = PrefixRest (unary_mark found) at
 
-abbrev AfterFirst : Symbol → Spelling Symbol Expr
+abbrev pub AfterFirst : Symbol → Spelling Symbol Expr
 AfterFirst (symbols.Number at) x w = Nothing (number at) x w
 AfterFirst (symbols.Capture found) x w = CaptureRest (meanings.plain_capture (symbols.Capture found)) x w
 AfterFirst (symbols.Identifier at) x w = NamedRest at x w
@@ -86,7 +86,7 @@ AfterFirst t x w = ⊥
 one_symbol : (x : Expr) (t : Symbol) (at : Span) (w : List Symbol) (meaning : Symbol → Option Span) → meaning t ≡ Some at → w ≡ [] → Meant meaning at (t ∷ w)
 one_symbol x t at w meaning is empty = (t, is, ap (λ l. t ∷ l) empty)
 
-call_to : (callee : Callee) (x : Expr) (p w : List Symbol) → SpellsCallee callee p → CallRest callee x w → Within 0 x (p ++ w)
+pub call_to : (callee : Callee) (x : Expr) (p w : List Symbol) → SpellsCallee callee p → CallRest callee x w → Within 0 x (p ++ w)
 call_to callee x p w front (o, u, v, left, closed, cut) =
     let (args, same, others) = of_closed callee x v closed in
     subst (λ e. Within 0 e (p ++ w)) same (omega arith, (p, w, front, (u, v, (o, left), others, cut), refl))
@@ -200,7 +200,7 @@ whole_first meaning at t w meant =
     let (is, rest) = first_meant meaning at t w (t ∷ w) [] meant (sym (append-nil (t ∷ w))) in
     (is, sym rest)
 
-of_operand : (x : Expr) (t : Symbol) (w : List Symbol) → Within 0 x (t ∷ w) → AfterFirst t x w
+pub of_operand : (x : Expr) (t : Symbol) (w : List Symbol) → Within 0 x (t ∷ w) → AfterFirst t x w
 of_operand (number at) t w (low, spelled) = let (is, empty) = whole_first meanings.number at t w spelled in after_number t at w is empty
 of_operand (capture at) t w (low, spelled) = let (is, empty) = whole_first meanings.plain_capture at t w spelled in after_capture t at w is empty
 of_operand (named at) t w (low, spelled) = let (is, empty) = whole_first meanings.identifier at t w spelled in after_name t at (named at) w is (inl (refl, empty))
@@ -216,7 +216,7 @@ of_operand (choose at c a b) t w (low, spelled) = absurd (omega arith)
 of_operand (call callee args) t w (low, (u, v, front, (u₁, v₁, (o, left), others, inside), cut)) =
     after_callee callee.wide callee.name t (call callee args) w u v front cut (o, u₁, v₁, left, closed_of callee args v₁ others, inside)
 
-operand_not_empty : (x : Expr) → Within 0 x [] → ⊥
+pub operand_not_empty : (x : Expr) → Within 0 x [] → ⊥
 operand_not_empty (number at) (low, (t, is, one)) = cc
 operand_not_empty (capture at) (low, (t, is, one)) = cc
 operand_not_empty (named at) (low, (t, is, one)) = cc
@@ -232,19 +232,19 @@ operand_not_empty (call callee args) (low, (u, v, (a, b, wide, word, inside), ot
 
 -- exactness, where the readers one level deeper are exact below a length
 
-abbrev IsOpen : Symbol → Type 0
+abbrev pub IsOpen : Symbol → Type 0
 IsOpen (symbols.Mark marks.Open at) = Unit {0}
 IsOpen t = ⊥
 
-abbrev IsColons : Symbol → Type 0
+abbrev pub IsColons : Symbol → Type 0
 IsColons (symbols.Mark marks.DoubleColon at) = Unit {0}
 IsColons t = ⊥
 
-open_is : (t : Symbol) (at : Span) → meanings.mark marks.Open t ≡ Some at → IsOpen t
+pub open_is : (t : Symbol) (at : Span) → meanings.mark marks.Open t ≡ Some at → IsOpen t
 open_is (symbols.Mark marks.Open p) at e = tt
 open_is t at e = absurd (cc)
 
-colons_are : (t : Symbol) (at : Span) → meanings.mark marks.DoubleColon t ≡ Some at → IsColons t
+pub colons_are : (t : Symbol) (at : Span) → meanings.mark marks.DoubleColon t ≡ Some at → IsColons t
 colons_are (symbols.Mark marks.DoubleColon p) at e = tt
 colons_are t at e = absurd (cc)
 
