@@ -97,58 +97,69 @@ not_looked_for : {A : Type 0} (b : Bool) (a : A) → (if b then Some a else None
 not_looked_for true a e is = cc
 not_looked_for false a e is = cc
 
--- no expression begins with `)`
+-- no expression begins with `)` or `&`
 
 abbrev pub IsClose : Symbol → Type 0
 IsClose (symbols.Mark marks.Close at) = Unit {0}
 IsClose t = ⊥
 
-abbrev pub IsNoClose : Symbol → Type 0
-IsNoClose t = ¬ IsClose t
+abbrev IsCloseOrFlag : Symbol → Type 0
+IsCloseOrFlag (symbols.Mark marks.Close at) = Unit {0}
+IsCloseOrFlag (symbols.Mark marks.Ampersand at) = Unit {0}
+IsCloseOrFlag t = ⊥
+
+abbrev pub Opens : Symbol → Type 0
+Opens t = ¬ IsCloseOrFlag t
 
 pub close_is : (t : Symbol) (at : Span) → meanings.mark marks.Close t ≡ Some at → IsClose t
 close_is (symbols.Mark marks.Close p) at e = tt
 close_is t at e = absurd (cc)
 
-number_opens : (t : Symbol) (at : Span) → meanings.number t ≡ Some at → IsNoClose t
+number_opens : (t : Symbol) (at : Span) → meanings.number t ≡ Some at → Opens t
 number_opens (symbols.Mark marks.Close p) at e = absurd (cc)
+number_opens (symbols.Mark marks.Ampersand p) at e = absurd (cc)
 number_opens t at e = λ h. h
 
-capture_opens : (t : Symbol) (at : Span) → meanings.plain_capture t ≡ Some at → IsNoClose t
+capture_opens : (t : Symbol) (at : Span) → meanings.plain_capture t ≡ Some at → Opens t
 capture_opens (symbols.Mark marks.Close p) at e = absurd (cc)
+capture_opens (symbols.Mark marks.Ampersand p) at e = absurd (cc)
 capture_opens t at e = λ h. h
 
-identifier_opens : (t : Symbol) (at : Span) → meanings.identifier t ≡ Some at → IsNoClose t
+identifier_opens : (t : Symbol) (at : Span) → meanings.identifier t ≡ Some at → Opens t
 identifier_opens (symbols.Mark marks.Close p) at e = absurd (cc)
+identifier_opens (symbols.Mark marks.Ampersand p) at e = absurd (cc)
 identifier_opens t at e = λ h. h
 
-wide_opens : (t : Symbol) (at : Span) → meanings.word words.Wide t ≡ Some at → IsNoClose t
+wide_opens : (t : Symbol) (at : Span) → meanings.word words.Wide t ≡ Some at → Opens t
 wide_opens (symbols.Mark marks.Close p) at e = absurd (cc)
+wide_opens (symbols.Mark marks.Ampersand p) at e = absurd (cc)
 wide_opens t at e = λ h. h
 
-open_opens : (t : Symbol) (at : Span) → meanings.mark marks.Open t ≡ Some at → IsNoClose t
+open_opens : (t : Symbol) (at : Span) → meanings.mark marks.Open t ≡ Some at → Opens t
 open_opens (symbols.Mark marks.Close p) at e = absurd (cc)
+open_opens (symbols.Mark marks.Ampersand p) at e = absurd (cc)
 open_opens t at e = λ h. h
 
-unary_opens : (t : Symbol) (op : UnaryOperator × Span) → unary_operator t ≡ Some op → IsNoClose t
+unary_opens : (t : Symbol) (op : UnaryOperator × Span) → unary_operator t ≡ Some op → Opens t
 unary_opens (symbols.Mark marks.Close p) op e = absurd (cc)
+unary_opens (symbols.Mark marks.Ampersand p) op e = absurd (cc)
 unary_opens t op e = λ h. h
 
-wide_begun : (wide : Option Span) (name : Span) (w : List Symbol) → (SpellsWide wide ▸ Meant meanings.identifier name) w → Begun IsNoClose w
+wide_begun : (wide : Option Span) (name : Span) (w : List Symbol) → (SpellsWide wide ▸ Meant meanings.identifier name) w → Begun Opens w
 wide_begun None name w (u, v, empty, word, cut) =
-    subst (λ l. Begun IsNoClose l) (sym (cut ∙ ap (λ l. l ++ v) empty)) (meant_begun meanings.identifier IsNoClose identifier_opens name v word)
+    subst (λ l. Begun Opens l) (sym (cut ∙ ap (λ l. l ++ v) empty)) (meant_begun meanings.identifier Opens identifier_opens name v word)
 wide_begun (Some at) name w (u, v, (a, b, wide, colons, inside), word, cut) =
-    front_begun IsNoClose u v w (front_begun IsNoClose a b u (meant_begun (meanings.word words.Wide) IsNoClose wide_opens at a wide) inside) cut
+    front_begun Opens u v w (front_begun Opens a b u (meant_begun (meanings.word words.Wide) Opens wide_opens at a wide) inside) cut
 
-pub expression_begun : (x : Expr) (w : List Symbol) → Spells x w → Begun IsNoClose w
-expression_begun (number at) w spelled = meant_begun meanings.number IsNoClose number_opens at w spelled
-expression_begun (capture at) w spelled = meant_begun meanings.plain_capture IsNoClose capture_opens at w spelled
-expression_begun (named at) w spelled = meant_begun meanings.identifier IsNoClose identifier_opens at w spelled
-expression_begun (parens at a) w (u, v, left, others, cut) = front_begun IsNoClose u v w (meant_begun (meanings.mark marks.Open) IsNoClose open_opens at u left) cut
-expression_begun (unary op at a) w (low, (u, v, first, others, cut)) = front_begun IsNoClose u v w (meant_begun unary_operator IsNoClose unary_opens (op, at) u first) cut
-expression_begun (binary op at a b) w (left, right, (u, v, first, others, cut)) = front_begun IsNoClose u v w (expression_begun a u first) cut
-expression_begun (choose at c a b) w (low, (u, v, first, others, cut)) = front_begun IsNoClose u v w (expression_begun c u first) cut
-expression_begun (call callee args) w (u, v, first, others, cut) = front_begun IsNoClose u v w (wide_begun callee.wide callee.name u first) cut
+pub expression_begun : (x : Expr) (w : List Symbol) → Spells x w → Begun Opens w
+expression_begun (number at) w spelled = meant_begun meanings.number Opens number_opens at w spelled
+expression_begun (capture at) w spelled = meant_begun meanings.plain_capture Opens capture_opens at w spelled
+expression_begun (named at) w spelled = meant_begun meanings.identifier Opens identifier_opens at w spelled
+expression_begun (parens at a) w (u, v, left, others, cut) = front_begun Opens u v w (meant_begun (meanings.mark marks.Open) Opens open_opens at u left) cut
+expression_begun (unary op at a) w (low, (u, v, first, others, cut)) = front_begun Opens u v w (meant_begun unary_operator Opens unary_opens (op, at) u first) cut
+expression_begun (binary op at a b) w (left, right, (u, v, first, others, cut)) = front_begun Opens u v w (expression_begun a u first) cut
+expression_begun (choose at c a b) w (low, (u, v, first, others, cut)) = front_begun Opens u v w (expression_begun c u first) cut
+expression_begun (call callee args) w (u, v, first, others, cut) = front_begun Opens u v w (wide_begun callee.wide callee.name u first) cut
 
 -- what stands after the `(` of a call
 
@@ -190,12 +201,12 @@ some_some_args callee =
 no_args_begun : (callee : Callee) (x : Expr) (w : List Symbol) → NoArgs callee x w → Begun IsClose w
 no_args_begun callee x w (k, u, v, close, others, cut) = front_begun IsClose u v w (meant_begun (meanings.mark marks.Close) IsClose close_is k u close) cut
 
-list_begun : (args : List Expr) (w : List Symbol) → SomeList args w → Begun IsNoClose w
+list_begun : (args : List Expr) (w : List Symbol) → SomeList args w → Begun Opens w
 list_begun [] w none = absurd none
-list_begun (e ∷ es) w (u, v, first, others, cut) = front_begun IsNoClose u v w (expression_begun e u first) cut
+list_begun (e ∷ es) w (u, v, first, others, cut) = front_begun Opens u v w (expression_begun e u first) cut
 
-some_args_begun : (callee : Callee) (x : Expr) (w : List Symbol) → SomeArgs callee x w → Begun IsNoClose w
-some_args_begun callee x w (args, u, v, list, others, cut) = front_begun IsNoClose u v w (list_begun args u list) cut
+some_args_begun : (callee : Callee) (x : Expr) (w : List Symbol) → SomeArgs callee x w → Begun Opens w
+some_args_begun callee x w (args, u, v, list, others, cut) = front_begun Opens u v w (list_begun args u list) cut
 
 -- exactness, where the readers one level deeper are exact below a length
 
@@ -267,7 +278,7 @@ module _ (inner : Inner) (bound : ℕ) (good : (r : ℕ) (rest : List Symbol) �
 
   pub closed_exact : (callee : Callee) (input : List Symbol) → length input < bound → IsExact (Closed callee) (GoesOn 0) input (closed_at inner callee input)
   closed_exact callee (symbols.Mark marks.Close at ∷ rest) fits =
-      left_of (NoArgs callee) (SomeArgs callee) (GoesOn 0) IsNoClose (some_args_begun callee) (some_no_args callee) (symbols.Mark marks.Close at ∷ rest)
+      left_of (NoArgs callee) (SomeArgs callee) (GoesOn 0) Opens (some_args_begun callee) (some_no_args callee) (symbols.Mark marks.Close at ∷ rest)
       (closed_at inner callee (symbols.Mark marks.Close at ∷ rest)) (λ none. none tt)
       (token_then (meanings.mark marks.Close) CSyntax (some_mark marks.Close) (λ k. Nothing (call callee nil)) (GoesOn 0)
       (λ k. record { value = call callee nil; after = []; spelled = (refl, refl) }) (symbols.Mark marks.Close at ∷ rest) (λ right. Ok (call callee nil, right.1))

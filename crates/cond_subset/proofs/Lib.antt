@@ -8,3 +8,4 @@ pub mod ArgumentsExact
 pub mod OperandsExact
 pub mod ExpressionsExact
 pub mod CallTails
+pub mod ValuesExact
