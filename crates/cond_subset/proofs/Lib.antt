@@ -9,3 +9,4 @@ pub mod OperandsExact
 pub mod ExpressionsExact
 pub mod CallTails
 pub mod ValuesExact
+pub mod WideValuesExact
