@@ -11,3 +11,5 @@ pub mod CallTails
 pub mod ValuesExact
 pub mod WideValuesExact
 pub mod DeclarationsExact
+pub mod PartsExact
+pub mod SyntaxAnswers

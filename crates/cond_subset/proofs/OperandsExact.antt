@@ -191,7 +191,7 @@ after_callee None name t x w u v (a, b, empty, word, inside) cut called =
     after_name t name x w is (inr (subst (λ l. CallRest (plain name) x l) rest called))
 after_callee (Some at) name t x w u v (a, b, (c, e, wide, (d, colons), within), word, inside) cut called =
     let here : t ∷ w ≡ c ++ (e ++ (b ++ v)) =
-        cut ∙ ap (λ l. l ++ v) (inside ∙ ap (λ l. l ++ b) within) ∙ append_assoc (c ++ e) b v ∙ append_assoc c e (b ++ v) in
+    cut ∙ ap (λ l. l ++ v) (inside ∙ ap (λ l. l ++ b) within) ∙ append_assoc (c ++ e) b v ∙ append_assoc c e (b ++ v) in
     let (is, rest) = first_meant (meanings.word words.Wide) at t w c (e ++ (b ++ v)) wide here in
     after_prefix t at x w is (d, e, b ++ v, colons, (name, b, v, word, called, refl), sym rest)
 

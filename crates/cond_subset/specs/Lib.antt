@@ -7,3 +7,5 @@ pub mod GoesOn
 pub mod Declarations
 pub mod Words
 pub mod DeclarationReaders
+pub mod Syntax
+pub mod PartReaders

@@ -247,7 +247,12 @@ fn read_chain(
     let mut rest = symbols;
     while let Some(((operator, at), after)) = operator_here(below, rest) {
         let (right, after) = read_within(alloc, room, below, after)?;
-        left = ExprText::Binary(operator, at, Boxed::new(alloc, left)?, Boxed::new(alloc, right)?);
+        left = ExprText::Binary(
+            operator,
+            at,
+            Boxed::new(alloc, left)?,
+            Boxed::new(alloc, right)?,
+        );
         rest = after;
     }
     Ok((left, rest))

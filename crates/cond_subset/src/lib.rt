@@ -4,9 +4,12 @@
 mod declaration;
 mod expression;
 mod operators;
+mod part;
 mod tokens;
 mod tree;
 
+pub use part::{block_syntax, brace_syntax, cond_syntax, read_block, read_brace, read_expression};
 pub use tree::{
-    Arithmetic, BinaryOperator, Callee, DeclText, DeclWord, ExprText, FlaggedCall, UnaryOperator, ValueText,
+    Arithmetic, BinaryOperator, Callee, DeclText, DeclWord, ExprText, FlaggedCall, UnaryOperator,
+    ValueText,
 };
