@@ -5,7 +5,7 @@ use Rattle.grammar.specs.Spelling.{Meant, Then, Steps, LastStep}
 use Rattle.grammar.proofs.Chains.{chain_of_steps, steps_of_chain}
 use Rattle.pm_places.specs.declared.span.Span.{Span}
 use Rattle.pd_text.specs.declared.symbol.Symbol.{Symbol}
-use Rattle.cond_subset.specs.declared.tree.BinaryOperator.{BinaryOperator}
+use Rattle.pd_ast.specs.declared.operator.BinaryOperator.{BinaryOperator}
 use Rattle.cond_subset.specs.Operators.{binary_operator, rank_of, ranked}
 use Rattle.cond_subset.specs.Trees.{Expr, number, capture, named, parens, unary, binary, choose, call}
 use Rattle.cond_subset.specs.Grammar.{rank, Spells, Within}

@@ -17,7 +17,7 @@ use Rattle.pd_text.specs.declared.symbol.Symbol.{Symbol}
 use Rattle.pd_text.specs.declared.symbol.Symbol.TheVariants as symbols
 use Rattle.pd_text.specs.declared.symbol.Mark.TheVariants as marks
 use Rattle.pd_text.specs.Meanings as meanings
-use Rattle.cond_subset.specs.declared.tree.BinaryOperator.{BinaryOperator}
+use Rattle.pd_ast.specs.declared.operator.BinaryOperator.{BinaryOperator}
 use Rattle.cond_subset.specs.Operators.{binary_operator, rank_of, ranked}
 use Rattle.cond_subset.specs.Trees.{Expr, number, capture, named, parens, unary, binary, choose, call}
 use Rattle.cond_subset.specs.Grammar.{rank, Spells, Within}

@@ -7,8 +7,8 @@ use Rattle.pd_text.specs.declared.symbol.Symbol.TheVariants as symbols
 use Rattle.pd_text.specs.declared.symbol.Mark.{Mark}
 use Rattle.pd_text.specs.declared.symbol.Mark.TheVariants as marks
 use Rattle.pd_text.specs.Meanings.{mark}
-use Rattle.cond_subset.specs.declared.tree.BinaryOperator.{BinaryOperator}
-use Rattle.cond_subset.specs.declared.tree.BinaryOperator.TheVariants as binaries
+use Rattle.pd_ast.specs.declared.operator.BinaryOperator.{BinaryOperator}
+use Rattle.pd_ast.specs.declared.operator.BinaryOperator.TheVariants as binaries
 use Rattle.cond_subset.specs.Operators.{binary_mark, binary_operator, rank_of, of_rank, ranked}
 use Rattle.cond_subset.specs.Trees.{Expr, binary}
 use Rattle.cond_subset.specs.Grammar.{rank}

@@ -11,7 +11,8 @@ ghost use Rattle.cond_subset.specs.Readers as readers;
 
 use crate::operators::{ranked, unary_mark};
 use crate::tokens::{offends, read_identifier, read_mark};
-use crate::tree::{BinaryOperator, Callee, ExprText, UnaryOperator};
+use crate::tree::{Callee, ExprText};
+use pd_ast::{BinaryOperator, UnaryOperator};
 use pd_text::{Mark, Symbol, SymbolStop, Word};
 use pm_items::{Boxed, Items};
 use pm_places::Span;

@@ -10,6 +10,6 @@ mod tree;
 
 pub use part::{block_syntax, brace_syntax, cond_syntax, read_block, read_brace, read_expression};
 pub use tree::{
-    Arithmetic, BinaryOperator, Callee, DeclText, DeclWord, ExprText, FlaggedCall, UnaryOperator,
+    Arithmetic, Callee, DeclText, DeclWord, ExprText, FlaggedCall, UnaryOperator,
     ValueText,
 };
