@@ -1,1 +1,12 @@
+pub mod Cuts
+pub mod Directives
+pub mod Faults
+pub mod Levels
+pub mod Longest
+pub mod Marks
+pub mod Numbers
+pub mod Pieces
 pub mod Spans
+pub mod Spelled
+pub mod Tokens
+pub mod Unended
