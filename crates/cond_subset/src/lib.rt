@@ -5,11 +5,10 @@ mod declaration;
 mod expression;
 mod operators;
 mod part;
+#[cfg(test)]
+mod tests;
 mod tokens;
 mod tree;
 
 pub use part::{block_syntax, brace_syntax, cond_syntax, read_block, read_brace, read_expression};
-pub use tree::{
-    Arithmetic, Callee, DeclText, DeclWord, ExprText, FlaggedCall, UnaryOperator,
-    ValueText,
-};
+pub use tree::{Arithmetic, Callee, DeclText, DeclWord, ExprText, FlaggedCall, ValueText};
