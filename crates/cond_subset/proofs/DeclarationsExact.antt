@@ -1,8 +1,7 @@
 -- Declarations, and the inside of a `with` block, are read exactly.
-use Rattle.std.proofs.Common.{◌≡◌, ℕ, ◌+◌, ◌<◌, Bool, true, false, List, [], ◌∷◌, ◌++◌, length, Option, Some, None, Ok, Err, refl, sym, ap, subst, ◌∙◌, ◌⊎◌, inl, inr, arith}
+use Rattle.std.proofs.Common.{◌≡◌, ◌+◌, true, List, [], ◌∷◌, length, Option, Some, None, Ok, Err, refl, sym, ap, subst, ◌∙◌, ◌⊎◌, inl, inr, arith}
 use Rattle.std.proofs.lemmas.List.{append-nil}
-use Rattle.grammar.specs.Spelling.{Spelling, Begins, Nothing, Meant, Then, Mapped, Many}
-use Rattle.grammar.specs.Reading.{◌>>=◌}
+use Rattle.grammar.specs.Spelling.{Spelling, Begins, Nothing, Meant, Then}
 use Rattle.grammar.specs.Exact.{IsExact}
 use Rattle.grammar.proofs.Parts as parts
 use Rattle.grammar.proofs.Parts.{same_head}
@@ -15,17 +14,15 @@ use Rattle.pm_places.specs.declared.span.Span.{Span}
 use Rattle.pd_text.specs.declared.symbol.Symbol.{Symbol}
 use Rattle.pd_text.specs.declared.symbol.Symbol.TheVariants as symbols
 use Rattle.pd_text.specs.declared.symbol.Mark.TheVariants as marks
-use Rattle.pd_text.specs.declared.symbol.Word.{Word}
 use Rattle.pd_text.specs.declared.symbol.Word.TheVariants as words
 use Rattle.pd_text.specs.Meanings as meanings
 use Rattle.cond_subset.specs.declared.tree.DeclWord.{DeclWord}
 use Rattle.cond_subset.specs.declared.tree.DeclWord.TheVariants as declared
 use Rattle.cond_subset.specs.GoesOn.{GoesOn}
 use Rattle.cond_subset.specs.Words.{decl_word}
-use Rattle.cond_subset.specs.Trees.{Expr}
-use Rattle.cond_subset.specs.Grammar.{◌▸◌, AMark, Spells, Within}
-use Rattle.cond_subset.specs.Declarations.{Value, plain, flagged, Decl, valued, overflow, AWord, SpellsValue, SpellsValueOf, SpellsDecl, SpellsBlock}
-use Rattle.cond_subset.specs.Readers.{Read, identifier_at, mark_at, readers}
+use Rattle.cond_subset.specs.Grammar.{Spells, Within}
+use Rattle.cond_subset.specs.Declarations.{Value, plain, flagged, Decl, valued, overflow, SpellsValue, SpellsValueOf, SpellsDecl, SpellsBlock}
+use Rattle.cond_subset.specs.Readers.{readers}
 use Rattle.cond_subset.specs.DeclarationReaders.{expression_at, plain_at, value_of_at, valued_at, overflow_at, declared_at, decl_at, begins_decl, block_at, IsInBlock}
 use Rattle.cond_subset.proofs.SymbolsExact.{somewhere, some_mark, some_word, some_identifier}
 use Rattle.cond_subset.proofs.Ranks.{rank_small, semicolon_apart}

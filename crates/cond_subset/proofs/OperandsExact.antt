@@ -23,9 +23,9 @@ use Rattle.pd_ast.specs.declared.operator.UnaryOperator.{UnaryOperator}
 use Rattle.cond_subset.specs.declared.tree.Callee.{Callee}
 use Rattle.cond_subset.specs.Operators.{placed, unary_mark, unary_operator}
 use Rattle.cond_subset.specs.Trees.{Expr, number, capture, named, parens, unary, binary, choose, call}
-use Rattle.cond_subset.specs.Grammar.{◌▸◌, AMark, SpellsWide, SpellsCallee, Spells, Within}
-use Rattle.cond_subset.specs.Readers.{Inner, Read, closed_at, call_at, named_at, wide_at, after_wide_at, parens_at, under_at, prefixed_at, capture_at, operand_at}
-use Rattle.cond_subset.proofs.SymbolsExact.{somewhere, some_mark, some_identifier}
+use Rattle.cond_subset.specs.Grammar.{◌▸◌, SpellsWide, SpellsCallee, Spells, Within}
+use Rattle.cond_subset.specs.Readers.{Inner, Read, closed_at, call_at, named_at, wide_at, after_wide_at, parens_at, under_at, capture_at, operand_at}
+use Rattle.cond_subset.proofs.SymbolsExact.{some_mark, some_identifier}
 use Rattle.cond_subset.specs.GoesOn.{IsCall, GoesOn}
 use Rattle.cond_subset.proofs.Ranks.{operator_rank, rank_small, close_apart}
 use Rattle.cond_subset.proofs.LinksExact.{some_expression}

@@ -1,5 +1,5 @@
 -- What the stage of syntax answers, from what its reader gives.
-use Rattle.std.proofs.Common.{◌≡◌, List, [], ◌∷◌, Result, Ok, Err, refl, sym, ap, subst, ◌∙◌}
+use Rattle.std.proofs.Common.{◌≡◌, List, [], ◌∷◌, Result, Ok, Err, refl, sym, subst, ◌∙◌}
 use Rattle.std.specs.Prelude.{IfOk, IfErr}
 use Rattle.grammar.specs.Spelling.{Spelling}
 use Rattle.grammar.specs.Reading.{Answer}
@@ -9,13 +9,12 @@ use Rattle.grammar.specs.Whole.{IsFirstFault, IsReading, whole_of}
 use Rattle.grammar.specs.declared.stop.Stop.{Stop}
 use Rattle.grammar.specs.declared.stop.Stop.TheVariants as stops
 use Rattle.grammar.proofs.WholeInput.{whole}
-use Rattle.pm_ops.specs.Faults.{memory_fault}
 use Rattle.pm_ops.specs.declared.fault.PatternFault.{PatternFault}
 use Rattle.pm_ops.specs.declared.fault.PatternKind.{PatternKind}
 use Rattle.pm_ops.specs.declared.fault.PatternKind.TheVariants.{CSyntax}
 use Rattle.pd_text.specs.declared.symbol.Symbol.{Symbol}
-use Rattle.cond_subset.specs.Syntax.{syntax_fault, IsSyntaxFault, IsRefused, ReadsOrMemory}
-use Rattle.cond_subset.specs.PartReaders.{stop_fault, InSource}
+use Rattle.cond_subset.specs.Syntax.{syntax_fault, IsRefused, ReadsOrMemory}
+use Rattle.cond_subset.specs.WholeReaders.{InSource}
 
 refused_here : {A : Type 0} (N : Spelling Symbol A) (symbols rest : List Symbol) → IsFirstFault N symbols rest → IsRefused N symbols (syntax_fault symbols rest) CSyntax
 refused_here N symbols rest first = record { rest = rest; first = first; is = refl }

@@ -1,8 +1,7 @@
 -- The value of a `wide_int` is read exactly: after `wi::add (` and its like it may be a call with a flag.
-use Rattle.std.proofs.Common.{◌≡◌, ℕ, zero, suc, ◌+◌, ◌≤◌, ◌<◌, List, [], ◌∷◌, ◌++◌, length, Option, Some, None, Ok, refl, sym, ap, subst, ◌∙◌, ◌⊎◌, inl, inr, arith, append_assoc}
+use Rattle.std.proofs.Common.{◌≡◌, ℕ, suc, ◌+◌, ◌<◌, List, [], ◌∷◌, ◌++◌, length, Option, Some, None, refl, sym, ap, subst, ◌∙◌, inl, inr, arith, append_assoc}
 use Rattle.std.proofs.lemmas.List.{append-nil}
-use Rattle.grammar.specs.Spelling.{Spelling, Begins, Nothing, Meant, Then, Mapped, Many}
-use Rattle.grammar.specs.Reading.{◌>>=◌}
+use Rattle.grammar.specs.Spelling.{Spelling, Begins, Meant, Mapped, Many}
 use Rattle.grammar.specs.Exact.{IsApart, IsExact}
 use Rattle.grammar.proofs.Parts as parts
 use Rattle.grammar.proofs.Parts.{SameStart, same_head, same_tail}
@@ -15,7 +14,6 @@ use Rattle.pd_text.specs.declared.symbol.Word.TheVariants as words
 use Rattle.pd_text.specs.Meanings as meanings
 use Rattle.cond_subset.specs.declared.tree.Arithmetic.{Arithmetic}
 use Rattle.cond_subset.specs.declared.tree.Arithmetic.TheVariants as arithmetics
-use Rattle.cond_subset.specs.declared.tree.Callee.{Callee}
 use Rattle.cond_subset.specs.declared.tree.FlaggedCall.{FlaggedCall}
 use Rattle.cond_subset.specs.GoesOn.{GoesOn}
 use Rattle.cond_subset.specs.Words.{arithmetic, before_flag}
@@ -29,8 +27,8 @@ use Rattle.cond_subset.proofs.Ranks.{rank_small}
 use Rattle.cond_subset.proofs.LinksExact.{Continued, continued_far, some_continued}
 use Rattle.cond_subset.proofs.Grouping.{grouped, of_grouped}
 use Rattle.cond_subset.proofs.ArgumentsExact.{FurtherArg, Closed, args_of, ends, expression_begun}
-use Rattle.cond_subset.proofs.OperandsExact.{CallRest, WideRest, IsOpen, IsColons, open_is, colons_are, call_to, of_operand, operand_not_empty}
-use Rattle.cond_subset.proofs.CallTails.{Called, Last, OneMore, AfterArgument, Tail, last_tail, tail_last, one_more_tail, tail_one_more}
+use Rattle.cond_subset.proofs.OperandsExact.{WideRest, IsOpen, IsColons, open_is, colons_are, call_to, of_operand, operand_not_empty}
+use Rattle.cond_subset.proofs.CallTails.{Last, OneMore, AfterArgument, Tail, last_tail, tail_last, one_more_tail, tail_one_more}
 use Rattle.cond_subset.proofs.ValuesExact.{Opened, opened_exact}
 
 -- how many arguments stand between the first and the flag

@@ -1,7 +1,7 @@
 -- Readers of declarations on lists of symbols. They stand between code and grammar: the contracts above rest on the
 -- grammar and the faults alone.
-use Rattle.std.specs.Prelude.{◌≡◌, ℕ, ◌+◌, Bool, true, false, List, [], ◌∷◌, ◌++◌, length, Option, Some, None, Ok, Err}
-use Rattle.grammar.specs.Reading.{Answer, ◌>>=◌, meant_at, more_at}
+use Rattle.std.specs.Prelude.{◌≡◌, ◌+◌, Bool, true, false, List, [], ◌∷◌, ◌++◌, length, Option, Some, None, Ok, Err}
+use Rattle.grammar.specs.Reading.{◌>>=◌, meant_at, more_at}
 use Rattle.pm_ops.specs.declared.fault.PatternKind.TheVariants.{CSyntax}
 use Rattle.pm_places.specs.declared.span.Span.{Span}
 use Rattle.pd_text.specs.declared.symbol.Symbol.{Symbol}

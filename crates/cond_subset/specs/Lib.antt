@@ -8,4 +8,4 @@ pub mod Declarations
 pub mod Words
 pub mod DeclarationReaders
 pub mod Syntax
-pub mod PartReaders
+pub mod WholeReaders

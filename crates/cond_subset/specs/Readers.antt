@@ -1,6 +1,6 @@
 -- Readers of expressions on lists of symbols. They stand between code and grammar: the contracts above rest on the
 -- grammar and the faults alone.
-use Rattle.std.specs.Prelude.{ℕ, zero, suc, ◌+◌, ◌==◌, Bool, true, false, List, [], ◌∷◌, length, Option, Some, None, Ok, Err, if◌then◌else◌}
+use Rattle.std.specs.Prelude.{ℕ, zero, suc, ◌==◌, Bool, true, false, List, [], ◌∷◌, length, Option, Some, None, Ok, Err, if◌then◌else◌}
 use Rattle.grammar.specs.Reading.{Answer, ◌>>=◌, meant_at, steps_at, more_at}
 use Rattle.pm_ops.specs.declared.fault.PatternKind.{PatternKind}
 use Rattle.pm_ops.specs.declared.fault.PatternKind.TheVariants.{CSyntax}

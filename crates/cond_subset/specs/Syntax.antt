@@ -1,5 +1,5 @@
 -- What the stage of syntax answers of a C part that is given by its tokens.
-use Rattle.std.specs.Prelude.{◌≡◌, ℕ, ◌-◌, List, [], ◌∷◌, ◌++◌, map, length, slice_get, Option, Some, None, Result, Ok, Err, ◌⊎◌}
+use Rattle.std.specs.Prelude.{◌≡◌, ℕ, ◌-◌, List, [], ◌∷◌, map, length, slice_get, Option, Some, None, Result, Ok, Err, ◌⊎◌}
 use Rattle.grammar.specs.Spelling.{Spelling}
 use Rattle.grammar.specs.Whole.{IsFirstFault}
 use Rattle.pm_ops.specs.Faults.{memory_fault}

@@ -1,5 +1,5 @@
 -- C parts as plain trees, with the place of each leaf, operator and call in the source.
-use Rattle.std.specs.Prelude.{List, [], ◌∷◌, map}
+use Rattle.std.specs.Prelude.{List, [], ◌∷◌}
 use Rattle.pm_places.specs.declared.span.Span.{Span}
 use Rattle.pd_ast.specs.declared.operator.BinaryOperator.{BinaryOperator}
 use Rattle.pd_ast.specs.declared.operator.UnaryOperator.{UnaryOperator}

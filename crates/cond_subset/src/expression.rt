@@ -306,7 +306,7 @@ fn read_link(
 
 /// What goes on `first` at each rank up to this one.
 #[cycle(expression)]
-#[tactic(auto, using(crate::proofs::ReaderLemmas::links_stop))]
+#[tactic(auto, using(crate::proofs::Depths::links_stop))]
 pub(crate) fn read_links(
     alloc: Global,
     room: usize,

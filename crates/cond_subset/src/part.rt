@@ -10,7 +10,7 @@ ghost use Rattle.cond_subset.specs.Trees.{Expr, expr_of};
 ghost use Rattle.cond_subset.specs.Declarations.{Decl, decl_of, SpellsBlock};
 ghost use Rattle.cond_subset.specs.Grammar.{Spells};
 ghost use Rattle.cond_subset.specs.DeclarationReaders.{IsInBlock, expression_at, block_at};
-ghost use Rattle.cond_subset.specs.PartReaders.{brace_at, InSource};
+ghost use Rattle.cond_subset.specs.WholeReaders.{brace_at, InSource};
 ghost use Rattle.cond_subset.specs.Syntax.{symbols_of, SpellsBrace, end_of, fault_at, syntax_fault, IsRefused, ReadsOrMemory};
 
 use crate::declaration::read_decls;

@@ -1,8 +1,8 @@
 -- What the search leaves of the contract of `brace_of`.
 use Rattle.cond_subset.specs.Trees.{expr_of}
 use Rattle.cond_subset.specs.Syntax.{SpellsBrace}
-use Rattle.cond_subset.specs.PartReaders.{brace_at}
-use Rattle.cond_subset.proofs.PartsExact.{GoesOnBrace, brace_reads}
+use Rattle.cond_subset.specs.WholeReaders.{brace_at}
+use Rattle.cond_subset.proofs.BracesExact.{GoesOnBrace, brace_reads}
 use Rattle.cond_subset.proofs.SyntaxAnswers.{found_in, only_in, fault_in}
 use Rattle.cond_subset.proofs.part.brace_of.Goals as goal
 

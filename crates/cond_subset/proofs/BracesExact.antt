@@ -1,7 +1,7 @@
 -- The inside of braces is read exactly.
-use Rattle.std.proofs.Common.{◌≡◌, List, [], ◌∷◌, ◌++◌, Some, Ok, refl, sym, ap, subst, ◌∙◌, ◌⊎◌, inl, inr}
+use Rattle.std.proofs.Common.{◌≡◌, List, [], ◌∷◌, ◌++◌, Some, Ok, refl, sym, subst, ◌⊎◌, inl, inr}
 use Rattle.std.proofs.lemmas.List.{append-nil}
-use Rattle.grammar.specs.Spelling.{Spelling, Begins, Nothing, Meant, Then}
+use Rattle.grammar.specs.Spelling.{Spelling, Nothing, Meant, Then}
 use Rattle.grammar.specs.Exact.{IsApart, IsExact}
 use Rattle.grammar.proofs.Parts as parts
 use Rattle.grammar.proofs.EveryInput.{Reads, in_sequence, in_words}
@@ -18,7 +18,7 @@ use Rattle.cond_subset.specs.Trees.{Expr}
 use Rattle.cond_subset.specs.Grammar.{Spells}
 use Rattle.cond_subset.specs.Syntax.{SpellsBrace}
 use Rattle.cond_subset.specs.DeclarationReaders.{expression_at}
-use Rattle.cond_subset.specs.PartReaders.{semicolon_at, brace_at}
+use Rattle.cond_subset.specs.WholeReaders.{semicolon_at, brace_at}
 use Rattle.cond_subset.proofs.SymbolsExact.{some_mark}
 use Rattle.cond_subset.proofs.Ranks.{semicolon_apart}
 use Rattle.cond_subset.proofs.ArgumentsExact.{ends}

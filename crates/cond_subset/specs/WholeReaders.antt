@@ -1,6 +1,6 @@
 -- Readers of whole C parts on lists of symbols. They stand between code and grammar: the contracts above rest on the
 -- grammar and the faults alone.
-use Rattle.std.specs.Prelude.{◌≡◌, List, [], ◌∷◌, Result, Ok, Err}
+use Rattle.std.specs.Prelude.{◌≡◌, List, ◌∷◌, Result, Ok, Err}
 use Rattle.grammar.specs.Reading.{◌>>=◌}
 use Rattle.grammar.specs.declared.stop.Stop.{Stop}
 use Rattle.grammar.specs.declared.stop.Stop.TheVariants as stops
@@ -10,7 +10,6 @@ use Rattle.pm_ops.specs.declared.fault.PatternKind.{PatternKind}
 use Rattle.pd_text.specs.declared.symbol.Symbol.{Symbol}
 use Rattle.pd_text.specs.declared.symbol.Symbol.TheVariants as symbols
 use Rattle.pd_text.specs.declared.symbol.Mark.TheVariants as marks
-use Rattle.cond_subset.specs.GoesOn.{GoesOn}
 use Rattle.cond_subset.specs.Trees.{Expr}
 use Rattle.cond_subset.specs.Readers.{Read}
 use Rattle.cond_subset.specs.DeclarationReaders.{expression_at}
