@@ -9,3 +9,4 @@ pub mod Words
 pub mod DeclarationReaders
 pub mod Syntax
 pub mod WholeReaders
+pub mod Names

@@ -110,7 +110,7 @@ fn end_of(symbols: &[Symbol]) -> usize
 }
 
 /// A fault of this kind at a place.
-fn fault_at(kind: PatternKind, at: Span) -> PatternFault
+pub(crate) fn fault_at(kind: PatternKind, at: Span) -> PatternFault
     ensures { result ≡ fault_at kind at }
 {
     PatternFault {

@@ -1,0 +1,100 @@
+-- The stage of names: which names and calls a C part knows, and the first that it doesn't know.
+use Rattle.std.specs.Prelude.{◌≡◌, ℕ, Bool, true, false, ◌&&◌, ◌||◌, is_some, List, [], ◌∷◌, ◌++◌, Option, Some, None, Result, codes, if◌then◌else◌}
+use Rattle.std.specs.List.{list_any}
+use Rattle.std.specs.Str.{bytes_eq}
+use Rattle.pm_ops.specs.Names.{Name, code_c_named}
+use Rattle.pm_ops.specs.declared.fault.PatternFault.{PatternFault}
+use Rattle.pm_ops.specs.declared.fault.PatternKind.{PatternKind}
+use Rattle.pm_ops.specs.declared.fault.PatternKind.TheVariants.{Memory, CName}
+use Rattle.pm_places.specs.declared.span.Span.{Span}
+use Rattle.pm_places.specs.Spans.{text_of}
+use Rattle.pm_places.specs.FirstFaults.{or_fault}
+use Rattle.pm_places.specs.Judging as judging
+use Rattle.pd_ast.specs.Calls.{call_named}
+use Rattle.pd_ast.specs.declared.operator.BinaryOperator.{BinaryOperator}
+use Rattle.pd_ast.specs.declared.operator.BinaryOperator.TheVariants as binaries
+use Rattle.cond_subset.specs.declared.scope.Local.{Local}
+use Rattle.cond_subset.specs.declared.scope.Scope.{Scope}
+use Rattle.cond_subset.specs.declared.tree.Callee.{Callee}
+use Rattle.cond_subset.specs.Trees.{Expr, number, capture, named, parens, unary, binary, choose, call, Exprs, nil, cons}
+use Rattle.cond_subset.specs.Syntax.{fault_at}
+
+-- want of memory
+abbrev pub is_memory_kind : PatternKind → Bool
+is_memory_kind Memory = true
+is_memory_kind kind = false
+
+-- A stage answers exactly this fault, or none, unless memory runs out.
+abbrev pub Judges : {X : Type 0} → Option PatternFault → Result X PatternFault → Type 0
+Judges expected result = judging.Judges (λ (fault : PatternFault). is_memory_kind fault.kind) expected result
+
+-- the words of the language: `type`, truth values, and signs
+abbrev pub is_own : Name → Bool
+is_own name =
+    bytes_eq name (codes "type") || (bytes_eq name (codes "true") || (bytes_eq name (codes "false") || (bytes_eq name (codes "GIMPLE")
+    || (bytes_eq name (codes "GENERIC") || (bytes_eq name (codes "SIGNED") || bytes_eq name (codes "UNSIGNED"))))))
+
+abbrev pub is_local : List Local → Name → Bool
+is_local locals name = list_any (λ (local : Local). bytes_eq local.name name) locals
+
+abbrev pub is_choice : List Name → Name → Bool
+is_choice choices name = list_any (λ (one : Name). bytes_eq one name) choices
+
+-- a name that stands for something: one of these, `t` in a tail, a local, an identifier of a `for`, an operation
+abbrev pub knows : Scope → Name → Bool
+knows scope name =
+    is_own name || ((scope.in_match && bytes_eq name (codes "t")) || (is_local scope.locals name || (is_choice scope.choices name || is_some (code_c_named name))))
+
+-- the name of a call as it is looked up: with `wi::` where it is written
+abbrev pub wide_prefix : Option Span → Name
+wide_prefix None = []
+wide_prefix (Some at) = codes "wi::"
+
+abbrev pub callee_name : List ℕ → Callee → Name
+callee_name source callee = wide_prefix callee.wide ++ text_of source callee.name
+
+-- `TREE_CODE`
+abbrev pub is_code : Option Span → Name → Bool
+is_code None name = bytes_eq name (codes "TREE_CODE")
+is_code (Some at) name = false
+
+abbrev pub knows_call : List ℕ → Callee → Bool
+knows_call source callee = is_code callee.wide (text_of source callee.name) || is_some (call_named (callee_name source callee))
+
+-- `TREE_CODE (..)` on the left of `==` or `!=`, and `INTEGER_CST` or `SSA_NAME` on the right, both without parentheses
+abbrev pub compares : BinaryOperator → Bool
+compares binaries.Eq = true
+compares binaries.Ne = true
+compares op = false
+
+abbrev pub is_code_call : List ℕ → Expr → Bool
+is_code_call source (call callee args) = is_code callee.wide (text_of source callee.name)
+is_code_call source e = false
+
+abbrev pub is_code_word : List ℕ → Expr → Bool
+is_code_word source (named at) = bytes_eq (text_of source at) (codes "INTEGER_CST") || bytes_eq (text_of source at) (codes "SSA_NAME")
+is_code_word source e = false
+
+abbrev pub is_code_test : List ℕ → BinaryOperator → Expr → Expr → Bool
+is_code_test source op a b = compares op && (is_code_call source a && is_code_word source b)
+
+-- a fault, if this does not hold
+abbrev pub unless : Bool → PatternFault → Option PatternFault
+unless true fault = None
+unless false fault = Some fault
+
+abbrev mutual
+  -- the first unknown name or call of an expression
+  pub unknown : List ℕ → Scope → Expr → Option PatternFault
+  unknown source scope (number at) = None
+  unknown source scope (capture at) = None
+  unknown source scope (named at) = unless (knows scope (text_of source at)) (fault_at CName at)
+  unknown source scope (parens at a) = unknown source scope a
+  unknown source scope (unary op at a) = unknown source scope a
+  unknown source scope (binary op at a b) = or_fault (unknown source scope a) (if is_code_test source op a b then None else unknown source scope b)
+  unknown source scope (choose at c a b) = or_fault (unknown source scope c) (or_fault (unknown source scope a) (unknown source scope b))
+  unknown source scope (call callee args) = or_fault (unless (knows_call source callee) (fault_at CName callee.name)) (unknown_among source scope args)
+
+  pub unknown_among : List ℕ → Scope → Exprs → Option PatternFault
+  unknown_among source scope nil = None
+  unknown_among source scope (cons e es) = or_fault (unknown source scope e) (unknown_among source scope es)
