@@ -1,15 +1,16 @@
 //! The stage of names: each name and call of an expression is known.
 
-ghost use Rattle.std.specs.Prelude.{◌≡◌, map, IfOk};
+ghost use Rattle.std.specs.Prelude.{◌≡◌, ◌++◌, [], map, IfOk};
 ghost use Rattle.cond_subset.specs.Trees.{expr_of, exprs};
-ghost use Rattle.cond_subset.specs.Names.{is_own, is_local, is_choice, knows, callee_name, is_code, knows_call, compares, is_code_call, is_code_word, is_code_test, unknown, unknown_among, unless, Judges};
+ghost use Rattle.cond_subset.specs.Declarations.{value_of, decl_of};
+ghost use Rattle.cond_subset.specs.Names.{is_own, is_local, is_choice, knows_outside, last_named, knows, knows_flag, callee_name, is_code, knows_call, compares, is_code_call, is_code_word, is_code_test, unknown, unknown_among, unknown_value, unknown_decl, unknown_in, set_flag, flags_of, declared_by, unless, Judges};
 ghost use Rattle.cond_subset.specs.Syntax.{fault_at};
 ghost use Rattle.pm_ops.specs.declared.fault.PatternKind.TheVariants.{CName};
 ghost use Rattle.pm_places.specs.Spans.{text_of};
 
 use crate::part::fault_at;
-use crate::scope::{Local, Scope};
-use crate::tree::{Callee, ExprText};
+use crate::scope::{Declared, Local, Scope};
+use crate::tree::{Callee, DeclText, ExprText, ValueText};
 use pd_ast::{BinaryOperator, Call};
 use pm_ops::{Code, OutOfMemory, PatternFault, PatternKind, Text};
 use pm_places::{Span, text};
@@ -42,15 +43,37 @@ fn is_choice(choices: &[Text], name: &[u8]) -> bool
     choices.iter().any(|one| one.bytes() == name)
 }
 
-/// Whether a name stands for something.
-fn knows(scope: &Scope, name: &[u8]) -> bool
-    ensures { result ≡ knows scope.now name.now }
+/// Whether a name stands for something outside the block.
+fn knows_outside(scope: &Scope, name: &[u8]) -> bool
+    ensures { result ≡ knows_outside scope.now name.now }
 {
-    is_own(name)
-        || (scope.in_match && name == b"t".as_slice())
-        || is_local(scope.locals.as_slice(), name)
+    is_local(scope.locals.as_slice(), name)
         || is_choice(scope.choices.as_slice(), name)
         || Code::from_c_name(name).is_some()
+}
+
+/// What the block declared last by this name.
+fn last_named(source: &[u8], block: &[Declared], name: &[u8]) -> Option<Declared>
+    ensures { result ≡ last_named source.now block.now name.now }
+{
+    block
+        .iter()
+        .rev()
+        .copied()
+        .find(|one| text(source, one.name) == name)
+}
+
+/// Whether a name stands for something.
+fn knows(source: &[u8], scope: &Scope, block: &[Declared], name: &[u8]) -> bool
+    ensures { result ≡ knows source.now scope.now block.now name.now }
+{
+    if is_own(name) || (scope.in_match && name == b"t".as_slice()) {
+        return true;
+    }
+    match last_named(source, block, name) {
+        Some(one) => one.ready,
+        None => knows_outside(scope, name),
+    }
 }
 
 /// The name of a call, with `wi::` where it is written.
@@ -114,10 +137,32 @@ fn is_code_test(source: &[u8], operator: BinaryOperator, a: &ExprText, b: &ExprT
 }
 
 /// A name stands for something.
-fn check_name(source: &[u8], scope: &Scope, at: Span) -> Result<(), PatternFault>
-    ensures { Judges (unless (knows scope.now (text_of source.now at)) (fault_at CName at)) result }
+fn check_name(
+    source: &[u8],
+    scope: &Scope,
+    block: &[Declared],
+    at: Span,
+) -> Result<(), PatternFault>
+    ensures { Judges (unless (knows source.now scope.now block.now (text_of source.now at)) (fault_at CName at)) result }
 {
-    if knows(scope, text(source, at)) {
+    if knows(source, scope, block, text(source, at)) {
+        Ok(())
+    } else {
+        Err(fault_at(PatternKind::CName, at))
+    }
+}
+
+/// A name may stand after `&`.
+fn check_flag(
+    source: &[u8],
+    scope: &Scope,
+    block: &[Declared],
+    at: Span,
+) -> Result<(), PatternFault>
+    ensures { Judges (unless (knows_flag source.now scope.now block.now (text_of source.now at)) (fault_at CName at)) result }
+{
+    let name = text(source, at);
+    if last_named(source, block, name).is_some() || knows(source, scope, block, name) {
         Ok(())
     } else {
         Err(fault_at(PatternKind::CName, at))
@@ -139,38 +184,38 @@ fn check_callee(alloc: Global, source: &[u8], callee: &Callee) -> Result<(), Pat
     }
 }
 
-/// Each name and call of an expression is known.
+/// Each name and call of an expression is known, after what its block has declared.
 #[cycle(names)]
-pub fn check_names(
+fn check_expr(
     alloc: Global,
     source: &[u8],
     scope: &Scope,
+    block: &[Declared],
     expr: &ExprText,
 ) -> Result<(), PatternFault>
-    // The fault is that of the first unknown name or call.
-    ensures judges { Judges (unknown source.now scope.now (expr_of expr.now)) result }
+    ensures { Judges (unknown source.now scope.now block.now (expr_of expr.now)) result }
 {
     match expr {
         ExprText::Number(_) | ExprText::Capture(_) => Ok(()),
-        ExprText::Name(at) => check_name(source, scope, *at),
-        ExprText::Parens(_, a) => check_names(alloc, source, scope, a.get()),
-        ExprText::Unary(_, _, a) => check_names(alloc, source, scope, a.get()),
+        ExprText::Name(at) => check_name(source, scope, block, *at),
+        ExprText::Parens(_, a) => check_expr(alloc, source, scope, block, a.get()),
+        ExprText::Unary(_, _, a) => check_expr(alloc, source, scope, block, a.get()),
         ExprText::Binary(operator, _, a, b) => {
-            check_names(alloc, source, scope, a.get())?;
+            check_expr(alloc, source, scope, block, a.get())?;
             if is_code_test(source, *operator, a.get(), b.get()) {
                 Ok(())
             } else {
-                check_names(alloc, source, scope, b.get())
+                check_expr(alloc, source, scope, block, b.get())
             }
         }
         ExprText::Choose(_, c, a, b) => {
-            check_names(alloc, source, scope, c.get())?;
-            check_names(alloc, source, scope, a.get())?;
-            check_names(alloc, source, scope, b.get())
+            check_expr(alloc, source, scope, block, c.get())?;
+            check_expr(alloc, source, scope, block, a.get())?;
+            check_expr(alloc, source, scope, block, b.get())
         }
         ExprText::Call(callee, args) => {
             check_callee(alloc, source, callee)?;
-            check_all(alloc, source, scope, args.as_slice())
+            check_all(alloc, source, scope, block, args.as_slice())
         }
     }
 }
@@ -181,12 +226,114 @@ fn check_all(
     alloc: Global,
     source: &[u8],
     scope: &Scope,
+    block: &[Declared],
     args: &[ExprText],
 ) -> Result<(), PatternFault>
-    ensures { Judges (unknown_among source.now scope.now (exprs (map expr_of args.now))) result }
+    ensures { Judges (unknown_among source.now scope.now block.now (exprs (map expr_of args.now))) result }
 {
     for arg in args {
-        check_names(alloc, source, scope, arg)?;
+        check_expr(alloc, source, scope, block, arg)?;
+    }
+    Ok(())
+}
+
+/// Each name and call of a value is known.
+fn check_value(
+    alloc: Global,
+    source: &[u8],
+    scope: &Scope,
+    block: &[Declared],
+    value: &ValueText,
+) -> Result<(), PatternFault>
+    ensures { Judges (unknown_value source.now scope.now block.now (value_of value.now)) result }
+{
+    match value {
+        ValueText::Plain(expr) => check_expr(alloc, source, scope, block, expr),
+        ValueText::Flagged(_, args, flag) => {
+            check_all(alloc, source, scope, block, args.as_slice())?;
+            check_flag(source, scope, block, *flag)
+        }
+    }
+}
+
+/// Each name and call of a declaration is known.
+fn check_decl(
+    alloc: Global,
+    source: &[u8],
+    scope: &Scope,
+    block: &[Declared],
+    decl: &DeclText,
+) -> Result<(), PatternFault>
+    ensures { Judges (unknown_decl source.now scope.now block.now (decl_of decl.now)) result }
+{
+    match decl {
+        DeclText::Valued(_, _, value) => check_value(alloc, source, scope, block, value),
+        DeclText::Overflow(_) => Ok(()),
+    }
+}
+
+/// The flag that a value sets.
+fn flag_of(value: &ValueText) -> Option<Span>
+    ensures { flags_of result ≡ set_flag (value_of value.now) }
+{
+    match value {
+        ValueText::Plain(_) => None,
+        ValueText::Flagged(_, _, flag) => Some(*flag),
+    }
+}
+
+/// The block with what a declaration declares.
+fn declare(block: &mut Vec<Declared>, decl: &DeclText) -> Result<(), OutOfMemory>
+    ensures { IfOk result (λ _. block.new.items ≡ block.old.items ++ declared_by (decl_of decl.now)) }
+{
+    match decl {
+        DeclText::Valued(_, name, value) => {
+            if let Some(flag) = flag_of(value) {
+                block.push(Declared {
+                    name: flag,
+                    ready: true,
+                })?;
+            }
+            block.push(Declared {
+                name: *name,
+                ready: true,
+            })?;
+        }
+        DeclText::Overflow(name) => block.push(Declared {
+            name: *name,
+            ready: false,
+        })?,
+    }
+    Ok(())
+}
+
+/// Each name and call of an expression is known.
+pub fn check_names(
+    alloc: Global,
+    source: &[u8],
+    scope: &Scope,
+    expr: &ExprText,
+) -> Result<(), PatternFault>
+    // The fault is that of the first unknown name or call.
+    ensures { Judges (unknown source.now scope.now [] (expr_of expr.now)) result }
+{
+    check_expr(alloc, source, scope, &[], expr)
+}
+
+/// Each name and call of the declarations of a block is known.
+pub fn check_block_names(
+    alloc: Global,
+    source: &[u8],
+    scope: &Scope,
+    decls: &[DeclText],
+) -> Result<(), PatternFault>
+    // The fault is that of the first unknown name or call.
+    ensures { Judges (unknown_in source.now scope.now [] (map decl_of decls.now)) result }
+{
+    let mut block = Vec::new(alloc);
+    for decl in decls {
+        check_decl(alloc, source, scope, &block, decl)?;
+        declare(&mut block, decl)?;
     }
     Ok(())
 }

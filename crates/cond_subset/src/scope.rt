@@ -3,6 +3,7 @@
 use pd_ast::CType;
 use pm_items::Items;
 use pm_ops::Text;
+use pm_places::Span;
 
 /// A local with its static type.
 #[derive(Drop)]
@@ -22,4 +23,12 @@ pub struct Scope {
     pub locals: Items<Local>,
     /// It stands in the tail of a `match`, where `t` is an operand.
     pub in_match: bool,
+}
+
+/// A name that a `with` block has declared so far.
+#[derive(Clone, Copy, Debug, PartialEq, Eq)]
+pub struct Declared {
+    pub name: Span,
+    /// It has a value; an overflow flag has none before the call that sets it.
+    pub ready: bool,
 }
