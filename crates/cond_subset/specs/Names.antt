@@ -30,11 +30,16 @@ is_memory_kind kind = false
 abbrev pub Judges : {X : Type 0} → Option PatternFault → Result X PatternFault → Type 0
 Judges expected result = judging.Judges (λ (fault : PatternFault). is_memory_kind fault.kind) expected result
 
--- the words of the language: `type`, truth values, and signs
-abbrev pub is_own : Name → Bool
-is_own name =
-    bytes_eq name (codes "type") || (bytes_eq name (codes "true") || (bytes_eq name (codes "false") || (bytes_eq name (codes "GIMPLE")
-    || (bytes_eq name (codes "GENERIC") || (bytes_eq name (codes "SIGNED") || bytes_eq name (codes "UNSIGNED"))))))
+-- what comes before all locals: `type`, and `t` in a tail
+abbrev pub is_first : Bool → Name → Bool
+is_first in_match name = bytes_eq name (codes "type") || (in_match && bytes_eq name (codes "t"))
+
+-- truth values, and signs
+abbrev pub is_truth : Name → Bool
+is_truth name = bytes_eq name (codes "true") || (bytes_eq name (codes "false") || (bytes_eq name (codes "GIMPLE") || bytes_eq name (codes "GENERIC")))
+
+abbrev pub is_sign : Name → Bool
+is_sign name = bytes_eq name (codes "SIGNED") || bytes_eq name (codes "UNSIGNED")
 
 abbrev pub is_local : List Local → Name → Bool
 is_local locals name = list_any (λ (local : Local). bytes_eq local.name name) locals
@@ -42,9 +47,10 @@ is_local locals name = list_any (λ (local : Local). bytes_eq local.name name) l
 abbrev pub is_choice : List Name → Name → Bool
 is_choice choices name = list_any (λ (one : Name). bytes_eq one name) choices
 
--- a local, an identifier of a `for` or an operation, outside the block
+-- a local, an identifier of a `for`, an operation, or a word of the language, outside the block
 abbrev pub knows_outside : Scope → Name → Bool
-knows_outside scope name = is_local scope.locals name || (is_choice scope.choices name || is_some (code_c_named name))
+knows_outside scope name =
+    is_local scope.locals name || (is_choice scope.choices name || (is_some (code_c_named name) || (is_truth name || is_sign name)))
 
 -- what the block declared last by this name
 abbrev pub last_named : List ℕ → List Declared → Name → Option Declared
@@ -55,10 +61,9 @@ abbrev pub by_block : Option Declared → Bool → Bool
 by_block None outside = outside
 by_block (Some one) outside = one.ready
 
--- a name that stands for something: a word of the language, `t` in a tail, a name of the block, or one outside
+-- a name that stands for something: the first of these that it can be
 abbrev pub knows : List ℕ → Scope → List Declared → Name → Bool
-knows source scope block name =
-    is_own name || ((scope.in_match && bytes_eq name (codes "t")) || by_block (last_named source block name) (knows_outside scope name))
+knows source scope block name = is_first scope.in_match name || by_block (last_named source block name) (knows_outside scope name)
 
 -- a name that may stand after `&`: one that the block declared, or that stands for something
 abbrev pub knows_flag : List ℕ → Scope → List Declared → Name → Bool

@@ -3,7 +3,7 @@
 ghost use Rattle.std.specs.Prelude.{◌≡◌, ◌++◌, [], map, IfOk};
 ghost use Rattle.cond_subset.specs.Trees.{expr_of, exprs};
 ghost use Rattle.cond_subset.specs.Declarations.{value_of, decl_of};
-ghost use Rattle.cond_subset.specs.Names.{is_own, is_local, is_choice, knows_outside, last_named, knows, knows_flag, callee_name, is_code, knows_call, compares, is_code_call, is_code_word, is_code_test, unknown, unknown_among, unknown_value, unknown_decl, unknown_in, set_flag, flags_of, declared_by, unless, Judges};
+ghost use Rattle.cond_subset.specs.Names.{is_first, is_truth, is_sign, is_local, is_choice, knows_outside, last_named, knows, knows_flag, callee_name, is_code, knows_call, compares, is_code_call, is_code_word, is_code_test, unknown, unknown_among, unknown_value, unknown_decl, unknown_in, set_flag, flags_of, declared_by, unless, Judges};
 ghost use Rattle.cond_subset.specs.Syntax.{fault_at};
 ghost use Rattle.pm_ops.specs.declared.fault.PatternKind.TheVariants.{CName};
 ghost use Rattle.pm_places.specs.Spans.{text_of};
@@ -16,17 +16,28 @@ use pm_ops::{Code, OutOfMemory, PatternFault, PatternKind, Text};
 use pm_places::{Span, text};
 use std::alloc::Global;
 
-/// Whether this is a word of the language: `type`, a truth value or a sign.
-fn is_own(name: &[u8]) -> bool
-    ensures { result ≡ is_own name.now }
+/// Whether this comes before all locals: `type`, and `t` in a tail.
+fn is_first(in_match: bool, name: &[u8]) -> bool
+    ensures { result ≡ is_first in_match name.now }
 {
-    name == b"type".as_slice()
-        || name == b"true".as_slice()
+    name == b"type".as_slice() || (in_match && name == b"t".as_slice())
+}
+
+/// Whether this is a truth value.
+pub(crate) fn is_truth(name: &[u8]) -> bool
+    ensures { result ≡ is_truth name.now }
+{
+    name == b"true".as_slice()
         || name == b"false".as_slice()
         || name == b"GIMPLE".as_slice()
         || name == b"GENERIC".as_slice()
-        || name == b"SIGNED".as_slice()
-        || name == b"UNSIGNED".as_slice()
+}
+
+/// Whether this is a sign.
+pub(crate) fn is_sign(name: &[u8]) -> bool
+    ensures { result ≡ is_sign name.now }
+{
+    name == b"SIGNED".as_slice() || name == b"UNSIGNED".as_slice()
 }
 
 /// Whether one of these locals has the name.
@@ -50,6 +61,8 @@ fn knows_outside(scope: &Scope, name: &[u8]) -> bool
     is_local(scope.locals.as_slice(), name)
         || is_choice(scope.choices.as_slice(), name)
         || Code::from_c_name(name).is_some()
+        || is_truth(name)
+        || is_sign(name)
 }
 
 /// What the block declared last by this name.
@@ -67,7 +80,7 @@ fn last_named(source: &[u8], block: &[Declared], name: &[u8]) -> Option<Declared
 fn knows(source: &[u8], scope: &Scope, block: &[Declared], name: &[u8]) -> bool
     ensures { result ≡ knows source.now scope.now block.now name.now }
 {
-    if is_own(name) || (scope.in_match && name == b"t".as_slice()) {
+    if is_first(scope.in_match, name) {
         return true;
     }
     match last_named(source, block, name) {
