@@ -10,3 +10,4 @@ pub mod DeclarationReaders
 pub mod Syntax
 pub mod WholeReaders
 pub mod Names
+pub mod Signatures

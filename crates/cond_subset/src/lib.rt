@@ -7,6 +7,7 @@ mod names;
 mod operators;
 mod part;
 mod scope;
+mod signatures;
 #[cfg(test)]
 mod tests;
 mod tokens;
@@ -15,4 +16,5 @@ mod tree;
 pub use names::{check_block_names, check_names};
 pub use part::{block_syntax, brace_syntax, cond_syntax, read_block, read_brace, read_expression};
 pub use scope::{Local, Scope};
+pub use signatures::{Arguments, binary_type, call_type, signature, unary_type};
 pub use tree::{Arithmetic, Callee, DeclText, DeclWord, ExprText, FlaggedCall, ValueText};
