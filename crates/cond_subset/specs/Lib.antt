@@ -11,3 +11,4 @@ pub mod Syntax
 pub mod WholeReaders
 pub mod Names
 pub mod Signatures
+pub mod Types

@@ -12,9 +12,11 @@ mod signatures;
 mod tests;
 mod tokens;
 mod tree;
+mod types;
 
 pub use names::{check_block_names, check_names};
 pub use part::{block_syntax, brace_syntax, cond_syntax, read_block, read_brace, read_expression};
 pub use scope::{Local, Scope};
 pub use signatures::{Arguments, binary_type, call_type, signature, unary_type};
 pub use tree::{Arithmetic, Callee, DeclText, DeclWord, ExprText, FlaggedCall, ValueText};
+pub use types::{brace_type, cond_type};

@@ -48,7 +48,7 @@ fn is_local(locals: &[Local], name: &[u8]) -> bool
 }
 
 /// Whether one of these identifiers is the name.
-fn is_choice(choices: &[Text], name: &[u8]) -> bool
+pub(crate) fn is_choice(choices: &[Text], name: &[u8]) -> bool
     ensures { result ≡ is_choice choices.now name.now }
 {
     choices.iter().any(|one| one.bytes() == name)
@@ -90,7 +90,11 @@ fn knows(source: &[u8], scope: &Scope, block: &[Declared], name: &[u8]) -> bool
 }
 
 /// The name of a call, with `wi::` where it is written.
-fn callee_name(alloc: Global, source: &[u8], callee: &Callee) -> Result<Vec<u8>, OutOfMemory>
+pub(crate) fn callee_name(
+    alloc: Global,
+    source: &[u8],
+    callee: &Callee,
+) -> Result<Vec<u8>, OutOfMemory>
     ensures { IfOk result (λ name. name.items ≡ callee_name source.now callee.now) }
 {
     let prefix = if callee.wide.is_some() { "wi::" } else { "" };
@@ -100,7 +104,7 @@ fn callee_name(alloc: Global, source: &[u8], callee: &Callee) -> Result<Vec<u8>,
 }
 
 /// Whether this is `TREE_CODE`.
-fn is_code(source: &[u8], callee: &Callee) -> bool
+pub(crate) fn is_code(source: &[u8], callee: &Callee) -> bool
     ensures { result ≡ is_code callee.now.wide (text_of source.now callee.now.name) }
 {
     match callee.wide {
@@ -143,7 +147,12 @@ fn compares(operator: BinaryOperator) -> bool
 }
 
 /// Whether `TREE_CODE (..)` is compared with one of its two words.
-fn is_code_test(source: &[u8], operator: BinaryOperator, a: &ExprText, b: &ExprText) -> bool
+pub(crate) fn is_code_test(
+    source: &[u8],
+    operator: BinaryOperator,
+    a: &ExprText,
+    b: &ExprText,
+) -> bool
     ensures { result ≡ is_code_test source.now operator (expr_of a.now) (expr_of b.now) }
 {
     compares(operator) && is_code_call(source, a) && is_code_word(source, b)

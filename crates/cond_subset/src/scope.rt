@@ -32,3 +32,12 @@ pub struct Declared {
     /// It has a value; an overflow flag has none before the call that sets it.
     pub ready: bool,
 }
+
+/// A name that a `with` block has declared so far, with its static type.
+#[derive(Clone, Copy, Debug, PartialEq, Eq)]
+pub struct Typed {
+    pub name: Span,
+    pub ty: CType,
+    /// It is an overflow flag.
+    pub flag: bool,
+}
