@@ -9,15 +9,22 @@ use Rattle.pm_places.specs.Spans.{text_of}
 use Rattle.pd_ast.specs.Calls.{call_named}
 use Rattle.pd_ast.specs.declared.call.Call.{Call}
 use Rattle.pd_ast.specs.declared.c_text.CType.{CType}
-use Rattle.pd_ast.specs.declared.c_text.CType.TheVariants.{Truth, Int, TypeRef, Oper, Sign, CodeRef}
+use Rattle.pd_ast.specs.declared.c_text.CType.TheVariants.{Truth, Int, TypeRef, Oper, WideRef, Sign, CodeRef}
 use Rattle.cond_subset.specs.declared.scope.Local.{Local}
 use Rattle.cond_subset.specs.declared.scope.Scope.{Scope}
 use Rattle.cond_subset.specs.declared.scope.Typed.{Typed}
 use Rattle.cond_subset.specs.declared.tree.Callee.{Callee}
-use Rattle.cond_subset.specs.Trees.{Expr, number, capture, named, parens, unary, binary, choose, call, Exprs, nil, cons}
+use Rattle.cond_subset.specs.Trees.{Expr, number, capture, named, parens, unary, binary, choose, call, Exprs, nil, cons, exprs}
 use Rattle.cond_subset.specs.Syntax.{fault_at}
 use Rattle.cond_subset.specs.Names.{is_memory_kind, is_choice, is_truth, is_code, callee_name, is_code_test}
-use Rattle.cond_subset.specs.Signatures.{unary_type, binary_type, call_type, same_type}
+use Rattle.cond_subset.specs.declared.signatures.Arguments.{Arguments}
+use Rattle.cond_subset.specs.declared.signatures.Arguments.TheVariants as takes
+use Rattle.cond_subset.specs.declared.tree.Arithmetic.{Arithmetic}
+use Rattle.cond_subset.specs.declared.tree.Arithmetic.TheVariants as arithmetics
+use Rattle.cond_subset.specs.declared.tree.DeclWord.{DeclWord}
+use Rattle.cond_subset.specs.declared.tree.DeclWord.TheVariants as declared
+use Rattle.cond_subset.specs.Declarations.{Value, plain, flagged, Decl, valued, overflow}
+use Rattle.cond_subset.specs.Signatures.{unary_type, binary_type, call_type, same_type, fit}
 
 -- the first of two answers that is a fault, or the second
 abbrev pub then_type : {A B : Type 0} → Result A PatternFault → (A → Result B PatternFault) → Result B PatternFault
@@ -133,3 +140,45 @@ wanted_type wanted at t = if same_type t wanted then Ok t else Err (fault_at kin
 
 abbrev pub part_type : CType → List ℕ → Scope → Expr → Result CType PatternFault
 part_type wanted source scope e = then_type (type_of source scope [] e) (λ t. wanted_type wanted (start_of e) t)
+
+-- declarations
+
+-- the type of a local that is declared with this word and a value of this type
+abbrev pub declared_type : DeclWord → CType → Option CType
+declared_type declared.Tree TypeRef = Some TypeRef
+declared_type declared.Tree Oper = Some Oper
+declared_type declared.WideInt WideRef = Some WideRef
+declared_type declared.Boolean Truth = Some Truth
+declared_type declared.Int Int = Some Int
+declared_type declared.Unsigned Int = Some Int
+declared_type declared.Signop Sign = Some Sign
+declared_type declared.TreeCode CodeRef = Some CodeRef
+declared_type word t = None
+
+-- what stands before a flag: two words and the sign by which they are read, or a word
+abbrev pub taken_by : Arithmetic → Arguments
+taken_by arithmetics.Negate = takes.Word
+taken_by operation = takes.TwoWordsAndSign
+
+-- an overflow flag that the block declared before
+abbrev pub is_flag : Option Typed → Bool
+is_flag None = false
+is_flag (Some one) = one.flag
+
+abbrev pub flagged_type : List ℕ → List Typed → Arithmetic → Name → List CType → Option CType
+flagged_type source block operation flag types = if fit (taken_by operation) types && is_flag (last_typed source block flag) then Some WideRef else None
+
+abbrev pub type_of_value : List ℕ → Scope → List Typed → DeclWord → Span → Value → Result CType PatternFault
+type_of_value source scope block word name (plain e) = then_type (type_of source scope block e) (λ t. or_fault_at name (declared_type word t))
+type_of_value source scope block word name (flagged c args flag) =
+    then_type (types_after source scope block [] (exprs args)) (λ types. or_fault_at c.name (flagged_type source block c.operation (text_of source flag) types))
+
+-- what a declaration declares, or its first fault
+abbrev pub type_of_decl : List ℕ → Scope → List Typed → Decl → Result Typed PatternFault
+type_of_decl source scope block (valued word name v) = then_type (type_of_value source scope block word name v) (λ t. Ok (record { name = name; ty = t; flag = false }))
+type_of_decl source scope block (overflow name) = Ok (record { name = name; ty = Truth; flag = true })
+
+-- the block with what declarations declare, or their first fault
+abbrev pub types_in : List ℕ → Scope → List Typed → List Decl → Result (List Typed) PatternFault
+types_in source scope block [] = Ok block
+types_in source scope block (d ∷ ds) = then_type (type_of_decl source scope block d) (λ one. types_in source scope (block ++ one ∷ []) ds)

@@ -16,7 +16,7 @@ mod types;
 
 pub use names::{check_block_names, check_names};
 pub use part::{block_syntax, brace_syntax, cond_syntax, read_block, read_brace, read_expression};
-pub use scope::{Local, Scope};
+pub use scope::{Declared, Local, Scope, Typed};
 pub use signatures::{Arguments, binary_type, call_type, signature, unary_type};
 pub use tree::{Arithmetic, Callee, DeclText, DeclWord, ExprText, FlaggedCall, ValueText};
-pub use types::{brace_type, cond_type};
+pub use types::{block_types, brace_type, cond_type};

@@ -186,7 +186,7 @@ fn are_words(a: CType, b: CType) -> bool
 }
 
 /// Whether arguments of these types are such.
-fn fit(arguments: Arguments, types: &[CType]) -> bool
+pub(crate) fn fit(arguments: Arguments, types: &[CType]) -> bool
     ensures { result ≡ signatures.fit arguments types.now }
 {
     match (arguments, types) {

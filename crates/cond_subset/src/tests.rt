@@ -1,8 +1,13 @@
-//! C parts over text: how operators group, and where the first fault of syntax stands.
+//! C parts over text: how operators group, and where the first fault of each stage stands.
 
-use crate::{DeclText, ExprText, ValueText, block_syntax, brace_syntax, cond_syntax};
+use crate::{
+    DeclText, ExprText, Local, Scope, ValueText, block_syntax, block_types, brace_syntax,
+    check_block_names, check_names, cond_syntax, cond_type,
+};
+use pd_ast::CType;
 use pd_lexer::lex;
-use pm_ops::{PatternFault, PatternKind};
+use pm_items::Items;
+use pm_ops::{PatternFault, PatternKind, Text};
 use std::alloc::Global;
 use std::test::Fail;
 
@@ -167,5 +172,99 @@ fn blocks_and_braces(rt: HostRuntime) -> Result<(), Fail> {
     assert_eq!(rt; brace(rt.alloc(), "a + b")?, 2);
     assert_eq!(rt; fault(brace(rt.alloc(), "a;;")), (2, 1));
     assert_eq!(rt; fault(brace(rt.alloc(), ";")), (0, 1));
+    Ok(())
+}
+
+/// A scope with the identifier `op` of a `for`, and the local `w`, a word.
+fn scope(alloc: Global) -> Result<Scope, PatternFault> {
+    let mut choices = Items::new(alloc);
+    choices.push(Text::new(alloc, b"op")?)?;
+    let mut locals = Items::new(alloc);
+    locals.push(Local {
+        name: Text::new(alloc, b"w")?,
+        ty: CType::WideRef,
+    })?;
+    Ok(Scope {
+        captures: Items::new(alloc),
+        choices,
+        locals,
+        in_match: false,
+    })
+}
+
+/// The first fault of a condition's names, then of its types.
+fn judged(alloc: Global, text: &str) -> Result<(), PatternFault> {
+    let source = text.as_bytes();
+    let scope = scope(alloc)?;
+    let tokens = lex(alloc, source)?;
+    let expr = cond_syntax(alloc, &tokens, source)?;
+    check_names(alloc, source, &scope, &expr)?;
+    let _ty = cond_type(alloc, source, &scope, &expr)?;
+    Ok(())
+}
+
+/// The same of a block.
+fn judged_block(alloc: Global, text: &str) -> Result<(), PatternFault> {
+    let source = text.as_bytes();
+    let scope = scope(alloc)?;
+    let tokens = lex(alloc, source)?;
+    let decls = block_syntax(alloc, &tokens, source)?;
+    check_block_names(alloc, source, &scope, decls.as_slice())?;
+    let _block = block_types(alloc, source, &scope, decls.as_slice())?;
+    Ok(())
+}
+
+/// The place of a fault of names, 100 more for one of types, 99 for none.
+fn place(judged: Result<(), PatternFault>) -> usize {
+    match judged {
+        Ok(()) => 99,
+        Err(fault) if fault.kind == PatternKind::CName => fault.at,
+        Err(fault) if fault.kind == PatternKind::CType => fault.at.saturating_add(100),
+        Err(_) => 98,
+    }
+}
+
+/// Conditions: unknown names first, then what does not fit.
+#[test]
+fn names_and_types(rt: HostRuntime) -> Result<(), Fail> {
+    for (text, at) in [
+        ("single_use (x)", 12),
+        ("x == 1 || y", 0),
+        ("1 == true", 102),
+        ("1 == true || x", 13),
+        ("w == 1", 99),
+        ("w < 1", 102),
+        ("1 + 2", 100),
+        ("t == t", 0),
+        ("op == PLUS_EXPR", 99),
+        ("op ? 1 : 2", 103),
+        ("TREE_CODE (@0) == INTEGER_CST", 99),
+        ("TREE_CODE (w) != SSA_NAME", 100),
+        ("(TREE_CODE (@0)) == INTEGER_CST", 20),
+        ("TREE_CODE (@0)", 100),
+        ("wi::eq_p (w, wi::to_wide (@0))", 99),
+        ("wi::eq_p (1, 2)", 104),
+        ("wi::foo (w)", 4),
+        ("foo (w)", 0),
+        ("types_match (@0, type)", 99),
+        ("true ? type : w == w", 105),
+    ] {
+        assert_eq!(rt; place(judged(rt.alloc(), text)), at);
+    }
+    for (text, at) in [
+        (
+            "wi::overflow_type o; wide_int w = wi::add (w, 1, SIGNED, &o); bool b = o;",
+            99,
+        ),
+        ("wi::overflow_type o; bool b = o;", 30),
+        ("wide_int v = wi::neg (w, &w);", 117),
+        ("wide_int v = wi::neg (w, &o);", 26),
+        ("bool w = true; wide_int v = w;", 124),
+        ("int i = i;", 8),
+        ("tree x = 1;", 105),
+        ("wi::overflow_type w; wide_int v = w;", 34),
+    ] {
+        assert_eq!(rt; place(judged_block(rt.alloc(), text)), at);
+    }
     Ok(())
 }

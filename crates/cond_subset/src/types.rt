@@ -4,14 +4,15 @@ ghost use Rattle.std.specs.Prelude.{◌≡◌, [], map};
 ghost use Rattle.pm_places.specs.Spans.{text_of};
 ghost use Rattle.pd_ast.specs.declared.c_text.CType.TheVariants.{Truth, Oper};
 ghost use Rattle.cond_subset.specs.Trees.{expr_of, exprs};
+ghost use Rattle.cond_subset.specs.Declarations.{value_of, decl_of};
 ghost use Rattle.cond_subset.specs.Types as types;
 ghost use Rattle.cond_subset.specs.Types.{Finds};
 
 use crate::names::{callee_name, is_choice, is_code, is_code_test, is_truth};
 use crate::part::fault_at;
 use crate::scope::{Local, Scope, Typed};
-use crate::signatures::{binary_type, call_type, unary_type};
-use crate::tree::{Callee, ExprText};
+use crate::signatures::{Arguments, binary_type, call_type, fit, unary_type};
+use crate::tree::{Arithmetic, Callee, DeclText, DeclWord, ExprText, ValueText};
 use pd_ast::{CType, Call};
 use pm_ops::{Code, PatternFault, PatternKind};
 use pm_places::{Span, text};
@@ -266,4 +267,131 @@ pub fn brace_type(
     ensures { Finds (λ t. t) (types.part_type Oper source.now scope.now (expr_of expr.now)) result }
 {
     part_type(alloc, CType::Oper, source, scope, expr)
+}
+
+/// The type of a local that is declared with this word and a value of this type.
+fn declared_type(word: DeclWord, ty: CType) -> Option<CType>
+    ensures { result ≡ types.declared_type word ty }
+{
+    match (word, ty) {
+        (DeclWord::Tree, CType::TypeRef) => Some(CType::TypeRef),
+        (DeclWord::Tree, CType::Oper) => Some(CType::Oper),
+        (DeclWord::WideInt, CType::WideRef) => Some(CType::WideRef),
+        (DeclWord::Boolean, CType::Truth) => Some(CType::Truth),
+        (DeclWord::Int, CType::Int) | (DeclWord::Unsigned, CType::Int) => Some(CType::Int),
+        (DeclWord::Signop, CType::Sign) => Some(CType::Sign),
+        (DeclWord::TreeCode, CType::CodeRef) => Some(CType::CodeRef),
+        _ => None,
+    }
+}
+
+/// What stands before a flag.
+fn taken_by(operation: Arithmetic) -> Arguments
+    ensures { result ≡ types.taken_by operation }
+{
+    match operation {
+        Arithmetic::Negate => Arguments::Word,
+        Arithmetic::Add | Arithmetic::Subtract | Arithmetic::Multiply => {
+            Arguments::TwoWordsAndSign
+        }
+    }
+}
+
+/// Whether this is an overflow flag that the block declared before.
+fn is_flag(source: &[u8], block: &[Typed], name: &[u8]) -> bool
+    ensures { result ≡ types.is_flag (types.last_typed source.now block.now name.now) }
+{
+    match last_typed(source, block, name) {
+        Some(one) => one.flag,
+        None => false,
+    }
+}
+
+/// The type of a call with a flag.
+fn flagged_type(
+    source: &[u8],
+    block: &[Typed],
+    operation: Arithmetic,
+    flag: &[u8],
+    args: &[CType],
+) -> Option<CType>
+    ensures { result ≡ types.flagged_type source.now block.now operation flag.now args.now }
+{
+    if fit(taken_by(operation), args) && is_flag(source, block, flag) {
+        Some(CType::WideRef)
+    } else {
+        None
+    }
+}
+
+/// The type of a local of this name, declared with this word and value, or its first fault.
+fn type_of_value(
+    alloc: Global,
+    source: &[u8],
+    scope: &Scope,
+    block: &[Typed],
+    word: DeclWord,
+    name: Span,
+    value: &ValueText,
+) -> Result<CType, PatternFault>
+    ensures { Finds (λ t. t) (types.type_of_value source.now scope.now block.now word name (value_of value.now)) result }
+{
+    match value {
+        ValueText::Plain(expr) => {
+            let ty = type_of(alloc, source, scope, block, expr)?;
+            or_fault_at(name, declared_type(word, ty))
+        }
+        ValueText::Flagged(call, args, flag) => {
+            let args = types_of(alloc, source, scope, block, args.as_slice())?;
+            let flag = text(source, *flag);
+            or_fault_at(
+                call.name,
+                flagged_type(source, block, call.operation, flag, &args),
+            )
+        }
+    }
+}
+
+/// What a declaration declares, or its first fault.
+fn type_of_decl(
+    alloc: Global,
+    source: &[u8],
+    scope: &Scope,
+    block: &[Typed],
+    decl: &DeclText,
+) -> Result<Typed, PatternFault>
+    ensures { Finds (λ one. one) (types.type_of_decl source.now scope.now block.now (decl_of decl.now)) result }
+{
+    match decl {
+        DeclText::Valued(word, name, value) => {
+            let ty = type_of_value(alloc, source, scope, block, *word, *name, value)?;
+            Ok(Typed {
+                name: *name,
+                ty,
+                flag: false,
+            })
+        }
+        DeclText::Overflow(name) => Ok(Typed {
+            name: *name,
+            ty: CType::Truth,
+            flag: true,
+        }),
+    }
+}
+
+/// What the declarations of a block declare, in their order, or their first fault.
+pub fn block_types(
+    alloc: Global,
+    source: &[u8],
+    scope: &Scope,
+    decls: &[DeclText],
+) -> Result<Vec<Typed>, PatternFault>
+    ensures { Finds (λ block. block.items) (types.types_in source.now scope.now [] (map decl_of decls.now)) result }
+{
+    let mut block = Vec::new(alloc);
+    for decl in decls {
+        let one = type_of_decl(alloc, source, scope, &block, decl)?;
+        block.push(one)?;
+    }
+    Ok(block)
 }
