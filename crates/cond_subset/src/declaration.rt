@@ -1,7 +1,8 @@
 //! Declarations of `with` blocks.
 //!
-//! The value of a `wide_int` may be a call whose last argument is a flag. After `wi::add (` and its like one argument is
-//! read after the other, until the `)`, the flag or one argument too many says which it is.
+//! The value of a `wide_int` may be a call whose last argument is a flag. After `wi::add (` and
+//! its like one argument is read after the other, until the `)`, the flag or one argument too many
+//! says which it is.
 
 ghost use Rattle.std.specs.Prelude.{◌≡◌, ◌<◌, ◌≤◌, length, map, IfOk};
 ghost use Rattle.grammar.specs.Gives.{Gives, GivesInMemory};

@@ -1,7 +1,8 @@
 //! Expressions, by the ranks of their operators.
 //!
-//! What holds together by itself is read first, and then, rank by rank, the operators that go on it: `*` first, `?:`
-//! last. Each reader is told that fewer than `room` symbols are left, so that the recursion ends.
+//! What holds together by itself is read first, and then, rank by rank, the operators that go on
+//! it: `*` first, `?:` last. Each reader is told that fewer than `room` symbols are left, so that
+//! the recursion ends.
 
 ghost use Rattle.std.specs.Prelude.{◌≡◌, ◌+◌, ◌<◌, ◌≤◌, length, map, option_map, IfOk, IfSome};
 ghost use Rattle.grammar.specs.Gives.{GivesInMemory};
@@ -187,7 +188,8 @@ fn read_prefixed(
     Ok((ExprText::Unary(operator, at, operand), rest))
 }
 
-/// What holds together by itself: a number, a capture, a name, a call, parentheses, or such an operand after an operator.
+/// What holds together by itself: a number, a capture, a name, a call, parentheses, or such an
+/// operand after an operator.
 #[cycle(expression)]
 fn read_operand(
     alloc: Global,

@@ -51,7 +51,8 @@ pub fn read_block(
     read_decls(alloc, symbols)
 }
 
-/// The expression that the symbols begin with, with the `;` after it, if there is one, and what is after them.
+/// The expression that the symbols begin with, with the `;` after it, if there is one, and what is
+/// after them.
 pub fn read_brace(
     alloc: Global,
     symbols: &[Symbol],

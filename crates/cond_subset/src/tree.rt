@@ -1,4 +1,4 @@
-//! Trees of C parts as they are written: each leaf, operator and call keeps its place in the source.
+//! Trees of C parts as they are written: each leaf, operator and call keeps its place.
 
 use pd_ast::{BinaryOperator, UnaryOperator};
 use pm_items::{Boxed, Items};
