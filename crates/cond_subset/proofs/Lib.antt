@@ -1,0 +1,12 @@
+-- Exactness of each reader.
+pub mod ReaderLemmas
+pub mod SymbolsExact
+pub mod Ranks
+pub mod LinksExact
+pub mod Grouping
+pub mod ArgumentsExact
+pub mod OperandsExact
+pub mod ExpressionsExact
+pub mod CallTails
+pub mod ValuesExact
+pub mod WideValuesExact
