@@ -10,3 +10,4 @@ pub mod ExpressionsExact
 pub mod CallTails
 pub mod ValuesExact
 pub mod WideValuesExact
+pub mod DeclarationsExact

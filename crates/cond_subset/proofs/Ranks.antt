@@ -111,3 +111,7 @@ close_apart r t at e = absurd (cc)
 pub comma_apart : (r : ℕ) (t : Symbol) (at : Span) → mark marks.Comma t ≡ Some at → ¬ GoesOn r t
 comma_apart r (symbols.Mark marks.Comma p) at e = none_goes_on r (symbols.Mark marks.Comma p) (λ h. h) (λ h. h) refl
 comma_apart r t at e = absurd (cc)
+
+pub semicolon_apart : (t : Symbol) → GoesOn 10 t → mark marks.Semicolon t ≡ None
+semicolon_apart (symbols.Mark marks.Semicolon p) goes_on = absurd (none_goes_on 10 (symbols.Mark marks.Semicolon p) (λ h. h) (λ h. h) refl goes_on)
+semicolon_apart t goes_on = refl

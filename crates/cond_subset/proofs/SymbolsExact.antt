@@ -6,7 +6,9 @@ use Rattle.pd_text.specs.declared.symbol.Symbol.{Symbol}
 use Rattle.pd_text.specs.declared.symbol.Symbol.TheVariants as symbols
 use Rattle.pd_text.specs.declared.symbol.Mark.{Mark}
 use Rattle.pd_text.specs.declared.symbol.Mark.TheVariants as marks
-use Rattle.pd_text.specs.Meanings.{same_mark, mark, identifier}
+use Rattle.pd_text.specs.declared.symbol.Word.{Word}
+use Rattle.pd_text.specs.declared.symbol.Word.TheVariants as words
+use Rattle.pd_text.specs.Meanings.{same_mark, same_word, mark, word, identifier}
 
 pub somewhere : Span
 somewhere = record { from = 0; to = 0 }
@@ -24,3 +26,14 @@ some_mark m = record {
 
 pub some_identifier : Begins (Meant identifier) []
 some_identifier = record { value = somewhere; after = symbols.Identifier somewhere ∷ []; spelled = (symbols.Identifier somewhere, refl, refl) }
+
+each_word : (k : Word) → same_word k k ≡ true
+each_word words.Simplify = refl
+each_word k = refl
+
+pub some_word : (k : Word) → Begins (Meant (word k)) []
+some_word k = record {
+  value = somewhere;
+  after = symbols.Word k somewhere ∷ [];
+  spelled = (symbols.Word k somewhere, ap (λ same. if same then Some somewhere else None) (each_word k), refl);
+}
