@@ -1,0 +1,6 @@
+-- What is shown of the stages of depth and syntax.
+mod DepthSteps
+mod PatternDepth
+mod BoundedReading
+mod HeadsExact
+mod PatternsExact

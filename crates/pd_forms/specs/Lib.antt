@@ -1,0 +1,6 @@
+-- What a pattern file is as trees, which symbols spell it, and what is too deep or too long.
+pub mod Depth
+pub mod Trees
+pub mod SymbolReaders
+pub mod Grammar
+pub mod PatternReaders

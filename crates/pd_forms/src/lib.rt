@@ -1,0 +1,12 @@
+//! Pattern files as trees: the stage of depth and the stage of syntax.
+//!
+//! Both go over the symbols of a whole file. Trees keep the place of each name, flag and capture in the source.
+#![tactic(auto)]
+
+mod depth;
+mod pattern;
+mod tokens;
+mod tree;
+
+pub use depth::check_depth;
+pub use tree::{HeadText, LeafText, PatternText, ResultText};
