@@ -2,7 +2,7 @@
 use Rattle.std.proofs.Common.{◌≡◌, ℕ, ◌≤◌, ◌<◌, Bool, true, false, List, [], ◌∷◌, ◌++◌, length, Option, Some, None, Ok, refl, sym, ap, subst, ◌∙◌, ◌⊎◌, inl, inr, arith, append_assoc, if◌then◌else◌}
 use Rattle.std.proofs.lemmas.List.{append-nil}
 use Rattle.grammar.specs.Spelling.{Spelling, Begins, Nothing, Meant, Then, Mapped, Steps, stays, goes, Many, Item}
-use Rattle.grammar.specs.Reading.{Answer, ◌>>=◌, meant_at, and_item, item_step, more_at}
+use Rattle.grammar.specs.Reading.{◌>>=◌, meant_at, and_item, item_step, more_at}
 use Rattle.grammar.specs.Exact.{IsApart, IsExact}
 use Rattle.grammar.proofs.Parts as parts
 use Rattle.grammar.proofs.Sequence as sequences
@@ -17,13 +17,12 @@ use Rattle.pd_text.specs.declared.symbol.Symbol.TheVariants as symbols
 use Rattle.pd_text.specs.declared.symbol.Mark.TheVariants as marks
 use Rattle.pd_text.specs.declared.symbol.Word.TheVariants as words
 use Rattle.pd_text.specs.Meanings as meanings
-use Rattle.cond_subset.specs.declared.tree.BinaryOperator.{BinaryOperator}
-use Rattle.cond_subset.specs.declared.tree.UnaryOperator.{UnaryOperator}
+use Rattle.pd_ast.specs.declared.operator.UnaryOperator.{UnaryOperator}
 use Rattle.cond_subset.specs.declared.tree.Callee.{Callee}
 use Rattle.cond_subset.specs.Operators.{unary_operator}
 use Rattle.cond_subset.specs.Trees.{Expr, number, capture, named, parens, unary, binary, choose, call, Exprs, nil, cons, exprs}
-use Rattle.cond_subset.specs.Grammar.{◌▸◌, AMark, SpellsWide, SpellsCallee, Spells, SpellsArgs, SpellsFurther, Within}
-use Rattle.cond_subset.specs.Readers.{Inner, Read, is_comma, further_at, args_at, closed_at, call_at}
+use Rattle.cond_subset.specs.Grammar.{◌▸◌, AMark, SpellsWide, Spells, SpellsArgs, SpellsFurther, Within}
+use Rattle.cond_subset.specs.Readers.{Inner, Read, is_comma, further_at, args_at, closed_at}
 use Rattle.cond_subset.proofs.SymbolsExact.{some_mark}
 use Rattle.cond_subset.specs.GoesOn.{GoesOn}
 use Rattle.cond_subset.proofs.Ranks.{rank_small, close_apart, comma_apart}

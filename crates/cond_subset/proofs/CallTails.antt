@@ -1,8 +1,8 @@
 -- What stands after an argument of a call that may have a flag, token by token, is further arguments and the end of the
 -- call, with a flag or without one.
-use Rattle.std.proofs.Common.{◌≡◌, ℕ, zero, suc, ◌≤◌, ◌<◌, List, [], ◌∷◌, ◌++◌, length, Option, Some, None, Ok, refl, sym, ap, subst, ◌∙◌, ◌⊎◌, inl, inr, arith, append_assoc}
+use Rattle.std.proofs.Common.{◌≡◌, ℕ, suc, List, [], ◌∷◌, ◌++◌, length, refl, sym, ap, subst, ◌∙◌, ◌⊎◌, inl, inr, arith, append_assoc}
 use Rattle.std.proofs.lemmas.List.{append-nil}
-use Rattle.grammar.specs.Spelling.{Spelling, Begins, Nothing, Meant, Then, Mapped, Steps, Many, Item}
+use Rattle.grammar.specs.Spelling.{Spelling, Nothing, Meant, Then, Mapped, Steps, Many, Item}
 use Rattle.grammar.proofs.Chains.{items_of_steps, steps_of_items}
 use Rattle.pm_places.specs.declared.span.Span.{Span}
 use Rattle.pd_text.specs.declared.symbol.Symbol.{Symbol}

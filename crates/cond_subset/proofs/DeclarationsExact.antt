@@ -1,8 +1,7 @@
 -- Declarations, and the inside of a `with` block, are read exactly.
-use Rattle.std.proofs.Common.{◌≡◌, ℕ, ◌+◌, ◌<◌, Bool, true, false, List, [], ◌∷◌, ◌++◌, length, Option, Some, None, Ok, Err, refl, sym, ap, subst, ◌∙◌, ◌⊎◌, inl, inr, arith}
+use Rattle.std.proofs.Common.{◌≡◌, ◌+◌, true, List, [], ◌∷◌, length, Option, Some, None, Ok, Err, refl, sym, ap, subst, ◌∙◌, ◌⊎◌, inl, inr, arith}
 use Rattle.std.proofs.lemmas.List.{append-nil}
-use Rattle.grammar.specs.Spelling.{Spelling, Begins, Nothing, Meant, Then, Mapped, Many}
-use Rattle.grammar.specs.Reading.{◌>>=◌}
+use Rattle.grammar.specs.Spelling.{Spelling, Begins, Nothing, Meant, Then}
 use Rattle.grammar.specs.Exact.{IsExact}
 use Rattle.grammar.proofs.Parts as parts
 use Rattle.grammar.proofs.Parts.{same_head}
@@ -15,18 +14,16 @@ use Rattle.pm_places.specs.declared.span.Span.{Span}
 use Rattle.pd_text.specs.declared.symbol.Symbol.{Symbol}
 use Rattle.pd_text.specs.declared.symbol.Symbol.TheVariants as symbols
 use Rattle.pd_text.specs.declared.symbol.Mark.TheVariants as marks
-use Rattle.pd_text.specs.declared.symbol.Word.{Word}
 use Rattle.pd_text.specs.declared.symbol.Word.TheVariants as words
 use Rattle.pd_text.specs.Meanings as meanings
 use Rattle.cond_subset.specs.declared.tree.DeclWord.{DeclWord}
 use Rattle.cond_subset.specs.declared.tree.DeclWord.TheVariants as declared
 use Rattle.cond_subset.specs.GoesOn.{GoesOn}
 use Rattle.cond_subset.specs.Words.{decl_word}
-use Rattle.cond_subset.specs.Trees.{Expr}
-use Rattle.cond_subset.specs.Grammar.{◌▸◌, AMark, Spells, Within}
-use Rattle.cond_subset.specs.Declarations.{Value, plain, flagged, Decl, valued, overflow, AWord, SpellsValue, SpellsValueOf, SpellsDecl, SpellsBlock}
-use Rattle.cond_subset.specs.Readers.{Read, identifier_at, mark_at, readers}
-use Rattle.cond_subset.specs.DeclarationReaders.{expression_at, plain_at, value_of_at, valued_at, overflow_at, declared_at, decl_at, begins_decl, block_at}
+use Rattle.cond_subset.specs.Grammar.{Spells, Within}
+use Rattle.cond_subset.specs.Declarations.{Value, plain, flagged, Decl, valued, overflow, SpellsValue, SpellsValueOf, SpellsDecl, SpellsBlock}
+use Rattle.cond_subset.specs.Readers.{readers}
+use Rattle.cond_subset.specs.DeclarationReaders.{expression_at, plain_at, value_of_at, valued_at, overflow_at, declared_at, decl_at, begins_decl, block_at, IsInBlock}
 use Rattle.cond_subset.proofs.SymbolsExact.{somewhere, some_mark, some_word, some_identifier}
 use Rattle.cond_subset.proofs.Ranks.{rank_small, semicolon_apart}
 use Rattle.cond_subset.proofs.LinksExact.{some_expression}
@@ -118,8 +115,7 @@ valued_to t word x w is (name, u, v, ident, (a, u₁, v₁, assign, (value, u₂
 overflow_to : (at : Span) (x : Decl) (w : List Symbol) → OverflowRest x w → SpellsDecl x (symbols.Word words.Wide at ∷ w)
 unfolding OverflowRest
 overflow_to at x w (d, u, v, colons, (k, u₁, v₁, word, (name, u₂, v₂, ident, (s, u₃, v₃, semicolon, (same, empty), c₃), c₂), c₁), cut) =
-    subst (λ y. SpellsDecl y (symbols.Word words.Wide at ∷ w)) (sym same)
-    (
+    subst (λ y. SpellsDecl y (symbols.Word words.Wide at ∷ w)) (sym same) (
       symbols.Word words.Wide at ∷ [],
       w,
       (at, (symbols.Word words.Wide at, refl, refl)),
@@ -193,10 +189,6 @@ decl_exact (t ∷ rest) = declared_exact t rest (decl_word t) refl (λ at is. cc
 
 decl_reads : Reads SpellsDecl Never decl_at
 decl_reads = record { some = some_decl; exact = decl_exact }
-
--- every symbol but `}`: a further declaration may begin at it, well or wrongly
-abbrev pub IsInBlock : Symbol → Type 0
-IsInBlock t = begins_decl t ≡ true
 
 -- The inside of a block.
 pub block_reads : Reads SpellsBlock IsInBlock block_at

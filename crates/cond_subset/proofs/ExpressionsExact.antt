@@ -1,12 +1,11 @@
 -- Expressions are read exactly, at every input.
-use Rattle.std.proofs.Common.{◌≡◌, ℕ, zero, suc, ◌≤◌, ◌<◌, List, length, Ok, refl, arith}
-use Rattle.grammar.specs.Spelling.{Then, Begins}
+use Rattle.std.proofs.Common.{ℕ, suc, ◌≤◌, ◌<◌, List, length, arith}
+use Rattle.grammar.specs.Spelling.{Then}
 use Rattle.grammar.specs.Exact.{IsExact}
 use Rattle.grammar.proofs.Parts as parts
 use Rattle.grammar.proofs.Sequence as sequences
 use Rattle.grammar.proofs.Recursion.{by_length}
 use Rattle.pd_text.specs.declared.symbol.Symbol.{Symbol}
-use Rattle.cond_subset.specs.Trees.{Expr}
 use Rattle.cond_subset.specs.Grammar.{Within}
 use Rattle.cond_subset.specs.Readers.{Inner, operand_at, links_at, within_at, readers}
 use Rattle.cond_subset.specs.GoesOn.{GoesOn}

@@ -1,16 +1,16 @@
 -- An operand, and what goes on it rank by rank, is what the grammar says: operators group to the left, `?:` to the right.
-use Rattle.std.proofs.Common.{◌≡◌, ℕ, zero, suc, ◌≤◌, ◌<◌, ◌==◌, Bool, true, false, List, [], ◌∷◌, ◌++◌, Some, refl, sym, ap, subst, ◌∙◌, ◌⊎◌, inl, inr, arith, append_assoc}
+use Rattle.std.proofs.Common.{◌≡◌, ℕ, zero, suc, ◌≤◌, ◌==◌, Bool, true, false, List, [], ◌++◌, refl, sym, ap, subst, ◌∙◌, ◌⊎◌, inl, inr, arith, append_assoc}
 use Rattle.std.proofs.lemmas.List.{append-nil}
-use Rattle.grammar.specs.Spelling.{Meant, Then, Steps, LastStep}
+use Rattle.grammar.specs.Spelling.{Meant, Then, LastStep}
 use Rattle.grammar.proofs.Chains.{chain_of_steps, steps_of_chain}
 use Rattle.pm_places.specs.declared.span.Span.{Span}
 use Rattle.pd_text.specs.declared.symbol.Symbol.{Symbol}
-use Rattle.cond_subset.specs.declared.tree.BinaryOperator.{BinaryOperator}
+use Rattle.pd_ast.specs.declared.operator.BinaryOperator.{BinaryOperator}
 use Rattle.cond_subset.specs.Operators.{binary_operator, rank_of, ranked}
 use Rattle.cond_subset.specs.Trees.{Expr, number, capture, named, parens, unary, binary, choose, call}
 use Rattle.cond_subset.specs.Grammar.{rank, Spells, Within}
 use Rattle.cond_subset.proofs.Ranks.{operator_rank, rank_small, same_number, other_number, ranked_is, is_ranked}
-use Rattle.cond_subset.proofs.LinksExact.{Step, Choice, LinkBy, Link, Continued, step_never_empty}
+use Rattle.cond_subset.proofs.LinksExact.{Step, LinkBy, Link, Continued, step_never_empty}
 
 -- an operator of this rank, as a symbol
 ranked_spelled : (r : ℕ) (op : BinaryOperator) (at : Span) (w : List Symbol) → Meant binary_operator (op, at) w → rank_of op ≡ r → Meant (ranked r) (op, at) w

@@ -1,5 +1,5 @@
 -- Exactness of each reader.
-pub mod ReaderLemmas
+pub mod Depths
 pub mod SymbolsExact
 pub mod Ranks
 pub mod LinksExact
@@ -11,3 +11,5 @@ pub mod CallTails
 pub mod ValuesExact
 pub mod WideValuesExact
 pub mod DeclarationsExact
+pub mod BracesExact
+pub mod SyntaxAnswers

@@ -1,30 +1,27 @@
 -- What goes on an expression, rank by rank, is read exactly: chains of operators that group to the left, and `?:`.
-use Rattle.std.proofs.Common.{◌≡◌, ℕ, zero, suc, ◌+◌, ◌≤◌, ◌<◌, ◌==◌, Bool, true, false, List, [], ◌∷◌, ◌++◌, length, Option, Some, None, Ok, Err, refl, sym, ap, subst, ◌∙◌, ◌⊎◌, inl, inr, arith, append_assoc, if◌then◌else◌}
-use Rattle.std.proofs.lemmas.List.{append-nil}
-use Rattle.grammar.specs.Spelling.{Spelling, Begins, Nothing, Meant, Then, Mapped, Steps, stays, goes, LastStep}
-use Rattle.grammar.specs.Reading.{Answer, ◌>>=◌, meant_at, meant_as}
+use Rattle.std.proofs.Common.{◌≡◌, ℕ, zero, suc, ◌≤◌, ◌<◌, ◌==◌, Bool, true, false, List, [], ◌∷◌, ◌++◌, length, Option, Some, None, Ok, refl, sym, ap, subst, ◌∙◌, inl, inr, arith, append_assoc, if◌then◌else◌}
+use Rattle.grammar.specs.Spelling.{Spelling, Begins, Nothing, Meant, Then, Mapped, Steps, stays, goes}
+use Rattle.grammar.specs.Reading.{◌>>=◌, meant_at, meant_as}
 use Rattle.grammar.specs.Exact.{IsApart, IsExact}
 use Rattle.grammar.proofs.Parts as parts
 use Rattle.grammar.proofs.Sequence as sequences
 use Rattle.grammar.proofs.Sequence.{then_apart, token_then}
 use Rattle.grammar.proofs.Repetition.{repeated}
-use Rattle.grammar.proofs.Chains.{chain_of_steps, steps_of_chain}
-use Rattle.grammar.proofs.Starts.{Begun, meant_begun, front_begun, first_meant, takes_token, begins_with, Optional, taken, left_out}
-use Rattle.pm_ops.specs.declared.fault.PatternKind.{PatternKind}
+use Rattle.grammar.proofs.Starts.{Begun, meant_begun, front_begun, takes_token, begins_with, Optional, taken, left_out}
 use Rattle.pm_ops.specs.declared.fault.PatternKind.TheVariants.{CSyntax}
 use Rattle.pm_places.specs.declared.span.Span.{Span}
 use Rattle.pd_text.specs.declared.symbol.Symbol.{Symbol}
 use Rattle.pd_text.specs.declared.symbol.Symbol.TheVariants as symbols
 use Rattle.pd_text.specs.declared.symbol.Mark.TheVariants as marks
 use Rattle.pd_text.specs.Meanings as meanings
-use Rattle.cond_subset.specs.declared.tree.BinaryOperator.{BinaryOperator}
-use Rattle.cond_subset.specs.Operators.{binary_operator, rank_of, ranked}
-use Rattle.cond_subset.specs.Trees.{Expr, number, capture, named, parens, unary, binary, choose, call}
-use Rattle.cond_subset.specs.Grammar.{rank, Spells, Within}
-use Rattle.cond_subset.specs.Readers.{Inner, Read, and_rest, operated, operator_here, right_at, operator_step, chain_at, choice_at, link_at, links_at}
+use Rattle.pd_ast.specs.declared.operator.BinaryOperator.{BinaryOperator}
+use Rattle.cond_subset.specs.Operators.{ranked}
+use Rattle.cond_subset.specs.Trees.{Expr, number, binary, choose}
+use Rattle.cond_subset.specs.Grammar.{Within}
+use Rattle.cond_subset.specs.Readers.{Inner, Read, and_rest, operated, right_at, operator_step, chain_at, choice_at, link_at, links_at}
 use Rattle.cond_subset.proofs.SymbolsExact.{somewhere, some_mark}
-use Rattle.cond_subset.specs.GoesOn.{IsCall, IsQuestion, GoesOn}
-use Rattle.cond_subset.proofs.Ranks.{operator_rank, rank_small, same_number, other_number, ranked_is, is_ranked, goes_on_further, ranked_apart, ranked_goes_on, question_apart, question_goes_on, question_is, colon_apart}
+use Rattle.cond_subset.specs.GoesOn.{IsQuestion, GoesOn}
+use Rattle.cond_subset.proofs.Ranks.{same_number, goes_on_further, ranked_apart, ranked_goes_on, question_apart, question_goes_on, question_is, colon_apart}
 
 -- relations
 

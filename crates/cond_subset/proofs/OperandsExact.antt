@@ -19,13 +19,13 @@ use Rattle.pd_text.specs.declared.symbol.Mark.TheVariants as marks
 use Rattle.pd_text.specs.declared.symbol.Word.{Word}
 use Rattle.pd_text.specs.declared.symbol.Word.TheVariants as words
 use Rattle.pd_text.specs.Meanings as meanings
-use Rattle.cond_subset.specs.declared.tree.UnaryOperator.{UnaryOperator}
+use Rattle.pd_ast.specs.declared.operator.UnaryOperator.{UnaryOperator}
 use Rattle.cond_subset.specs.declared.tree.Callee.{Callee}
 use Rattle.cond_subset.specs.Operators.{placed, unary_mark, unary_operator}
 use Rattle.cond_subset.specs.Trees.{Expr, number, capture, named, parens, unary, binary, choose, call}
-use Rattle.cond_subset.specs.Grammar.{◌▸◌, AMark, SpellsWide, SpellsCallee, Spells, Within}
-use Rattle.cond_subset.specs.Readers.{Inner, Read, closed_at, call_at, named_at, wide_at, after_wide_at, parens_at, under_at, prefixed_at, capture_at, operand_at}
-use Rattle.cond_subset.proofs.SymbolsExact.{somewhere, some_mark, some_identifier}
+use Rattle.cond_subset.specs.Grammar.{◌▸◌, SpellsWide, SpellsCallee, Spells, Within}
+use Rattle.cond_subset.specs.Readers.{Inner, Read, closed_at, call_at, named_at, wide_at, after_wide_at, parens_at, under_at, capture_at, operand_at}
+use Rattle.cond_subset.proofs.SymbolsExact.{some_mark, some_identifier}
 use Rattle.cond_subset.specs.GoesOn.{IsCall, GoesOn}
 use Rattle.cond_subset.proofs.Ranks.{operator_rank, rank_small, close_apart}
 use Rattle.cond_subset.proofs.LinksExact.{some_expression}
@@ -191,7 +191,7 @@ after_callee None name t x w u v (a, b, empty, word, inside) cut called =
     after_name t name x w is (inr (subst (λ l. CallRest (plain name) x l) rest called))
 after_callee (Some at) name t x w u v (a, b, (c, e, wide, (d, colons), within), word, inside) cut called =
     let here : t ∷ w ≡ c ++ (e ++ (b ++ v)) =
-        cut ∙ ap (λ l. l ++ v) (inside ∙ ap (λ l. l ++ b) within) ∙ append_assoc (c ++ e) b v ∙ append_assoc c e (b ++ v) in
+    cut ∙ ap (λ l. l ++ v) (inside ∙ ap (λ l. l ++ b) within) ∙ append_assoc (c ++ e) b v ∙ append_assoc c e (b ++ v) in
     let (is, rest) = first_meant (meanings.word words.Wide) at t w c (e ++ (b ++ v)) wide here in
     after_prefix t at x w is (d, e, b ++ v, colons, (name, b, v, word, called, refl), sym rest)
 

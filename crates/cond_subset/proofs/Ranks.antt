@@ -1,18 +1,17 @@
 -- How loosely expressions bind, and which symbols can go on one.
-use Rattle.std.proofs.Common.{◌≡◌, ℕ, zero, suc, ◌≤◌, ◌<◌, ◌==◌, Bool, true, false, Option, Some, None, refl, sym, ap, subst, ◌∙◌, ◌⊎◌, inl, inr, arith, if◌then◌else◌}
+use Rattle.std.proofs.Common.{◌≡◌, ℕ, suc, ◌≤◌, ◌==◌, Bool, true, false, Option, Some, None, refl, sym, ap, ◌∙◌, inl, inr, arith, if◌then◌else◌}
 use Rattle.std.proofs.lemmas.Bool.Decides.{nat_tests}
 use Rattle.pm_places.specs.declared.span.Span.{Span}
 use Rattle.pd_text.specs.declared.symbol.Symbol.{Symbol}
 use Rattle.pd_text.specs.declared.symbol.Symbol.TheVariants as symbols
-use Rattle.pd_text.specs.declared.symbol.Mark.{Mark}
 use Rattle.pd_text.specs.declared.symbol.Mark.TheVariants as marks
 use Rattle.pd_text.specs.Meanings.{mark}
-use Rattle.cond_subset.specs.declared.tree.BinaryOperator.{BinaryOperator}
-use Rattle.cond_subset.specs.declared.tree.BinaryOperator.TheVariants as binaries
-use Rattle.cond_subset.specs.Operators.{binary_mark, binary_operator, rank_of, of_rank, ranked}
+use Rattle.pd_ast.specs.declared.operator.BinaryOperator.{BinaryOperator}
+use Rattle.pd_ast.specs.declared.operator.BinaryOperator.TheVariants as binaries
+use Rattle.cond_subset.specs.Operators.{binary_operator, rank_of, of_rank, ranked}
 use Rattle.cond_subset.specs.Trees.{Expr, binary}
 use Rattle.cond_subset.specs.Grammar.{rank}
-use Rattle.cond_subset.specs.GoesOn.{IsCall, IsQuestion, IsOperator, GoesOn}
+use Rattle.cond_subset.specs.GoesOn.{IsCall, IsQuestion, GoesOn}
 
 pub operator_rank : (op : BinaryOperator) → (1 ≤ rank_of op) × (rank_of op ≤ 9)
 operator_rank binaries.Times = (omega arith, omega arith)

@@ -2,7 +2,6 @@
 use Rattle.std.proofs.Common.{◌≡◌, [], ◌∷◌, Some, None, true, refl, ap, if◌then◌else◌}
 use Rattle.grammar.specs.Spelling.{Begins, Meant}
 use Rattle.pm_places.specs.declared.span.Span.{Span}
-use Rattle.pd_text.specs.declared.symbol.Symbol.{Symbol}
 use Rattle.pd_text.specs.declared.symbol.Symbol.TheVariants as symbols
 use Rattle.pd_text.specs.declared.symbol.Mark.{Mark}
 use Rattle.pd_text.specs.declared.symbol.Mark.TheVariants as marks

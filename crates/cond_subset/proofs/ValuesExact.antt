@@ -1,34 +1,30 @@
 -- The value of a declaration is read exactly.
-use Rattle.std.proofs.Common.{◌≡◌, ℕ, zero, suc, ◌+◌, ◌≤◌, ◌<◌, Bool, true, false, List, [], ◌∷◌, ◌++◌, length, Option, Some, None, Ok, Err, refl, sym, ap, subst, ◌∙◌, ◌⊎◌, inl, inr, arith, append_assoc}
-use Rattle.std.proofs.lemmas.List.{append-nil}
-use Rattle.grammar.specs.Spelling.{Spelling, Begins, Nothing, Meant, Then, Mapped, Steps, stays, Many, Item}
+use Rattle.std.proofs.Common.{◌≡◌, ℕ, ◌≤◌, ◌<◌, List, [], ◌∷◌, ◌++◌, length, Some, Ok, refl, sym, subst, inl, inr, arith}
+use Rattle.grammar.specs.Spelling.{Spelling, Begins, Nothing, Meant, Then, Mapped, Steps, stays, Item}
 use Rattle.grammar.specs.Reading.{◌>>=◌, meant_at, more_at}
-use Rattle.grammar.specs.Exact.{IsApart, IsExact}
+use Rattle.grammar.specs.Exact.{IsExact}
 use Rattle.grammar.proofs.Parts as parts
-use Rattle.grammar.proofs.Sequence as sequences
 use Rattle.grammar.proofs.Sequence.{then_apart, token_then}
-use Rattle.grammar.proofs.Starts.{Begun, meant_begun, front_begun, widen_begun, same_begun, first_meant, takes_token, begins_with, Either, left_of, right_of, after_first}
+use Rattle.grammar.proofs.Starts.{Begun, meant_begun, front_begun, widen_begun, Either, left_of, right_of}
 use Rattle.pm_ops.specs.declared.fault.PatternKind.TheVariants.{CSyntax}
 use Rattle.pm_places.specs.declared.span.Span.{Span}
 use Rattle.pd_text.specs.declared.symbol.Symbol.{Symbol}
 use Rattle.pd_text.specs.declared.symbol.Symbol.TheVariants as symbols
 use Rattle.pd_text.specs.declared.symbol.Mark.TheVariants as marks
-use Rattle.pd_text.specs.declared.symbol.Word.TheVariants as words
 use Rattle.pd_text.specs.Meanings as meanings
 use Rattle.cond_subset.specs.declared.tree.Arithmetic.{Arithmetic}
 use Rattle.cond_subset.specs.declared.tree.Arithmetic.TheVariants as arithmetics
 use Rattle.cond_subset.specs.declared.tree.FlaggedCall.{FlaggedCall}
 use Rattle.cond_subset.specs.GoesOn.{GoesOn}
-use Rattle.cond_subset.specs.Words.{arithmetic, before_flag}
-use Rattle.cond_subset.specs.Trees.{Expr, named, call, nil, exprs}
-use Rattle.cond_subset.specs.Grammar.{Spells, Within}
+use Rattle.cond_subset.specs.Trees.{Expr, call, exprs}
+use Rattle.cond_subset.specs.Grammar.{Within}
 use Rattle.cond_subset.specs.Declarations.{Value, plain, flagged}
 use Rattle.cond_subset.specs.Readers.{Inner, Read, is_comma, further_at, links_at}
-use Rattle.cond_subset.specs.DeclarationReaders.{callee_of, plain_at, called_at, others_at, flag_at, flag_or_other_at, last_at, one_more_at, second_at, first_at, after_first_at, opened_at}
+use Rattle.cond_subset.specs.DeclarationReaders.{callee_of, called_at, others_at, flag_at, flag_or_other_at, last_at, one_more_at, second_at, after_first_at, opened_at}
 use Rattle.cond_subset.proofs.SymbolsExact.{some_mark, some_identifier}
 use Rattle.cond_subset.proofs.Ranks.{close_apart, comma_apart}
 use Rattle.cond_subset.proofs.LinksExact.{Continued, some_continued, some_expression, links_exact}
-use Rattle.cond_subset.proofs.ArgumentsExact.{FurtherArg, GoesOnArgs, comma_is, close_apart_args, items_begin, items_exact, IsClose, Opens, close_is, expression_begun}
+use Rattle.cond_subset.proofs.ArgumentsExact.{FurtherArg, GoesOnArgs, close_apart_args, items_begin, items_exact, IsClose, Opens, close_is, expression_begun}
 use Rattle.cond_subset.proofs.CallTails.{Called, Others, ToEnd, FlagTail, Flag, Other, FlagOrOther, AfterComma, Last, Next, OneMore, AfterArgument}
 
 -- what stands after the `(` of a call that may have a flag

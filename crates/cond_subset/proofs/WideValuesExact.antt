@@ -1,8 +1,7 @@
 -- The value of a `wide_int` is read exactly: after `wi::add (` and its like it may be a call with a flag.
-use Rattle.std.proofs.Common.{◌≡◌, ℕ, zero, suc, ◌+◌, ◌≤◌, ◌<◌, List, [], ◌∷◌, ◌++◌, length, Option, Some, None, Ok, refl, sym, ap, subst, ◌∙◌, ◌⊎◌, inl, inr, arith, append_assoc}
+use Rattle.std.proofs.Common.{◌≡◌, ℕ, suc, ◌+◌, ◌<◌, List, [], ◌∷◌, ◌++◌, length, Option, Some, None, refl, sym, ap, subst, ◌∙◌, inl, inr, arith, append_assoc}
 use Rattle.std.proofs.lemmas.List.{append-nil}
-use Rattle.grammar.specs.Spelling.{Spelling, Begins, Nothing, Meant, Then, Mapped, Many}
-use Rattle.grammar.specs.Reading.{◌>>=◌}
+use Rattle.grammar.specs.Spelling.{Spelling, Begins, Meant, Mapped, Many}
 use Rattle.grammar.specs.Exact.{IsApart, IsExact}
 use Rattle.grammar.proofs.Parts as parts
 use Rattle.grammar.proofs.Parts.{SameStart, same_head, same_tail}
@@ -15,7 +14,6 @@ use Rattle.pd_text.specs.declared.symbol.Word.TheVariants as words
 use Rattle.pd_text.specs.Meanings as meanings
 use Rattle.cond_subset.specs.declared.tree.Arithmetic.{Arithmetic}
 use Rattle.cond_subset.specs.declared.tree.Arithmetic.TheVariants as arithmetics
-use Rattle.cond_subset.specs.declared.tree.Callee.{Callee}
 use Rattle.cond_subset.specs.declared.tree.FlaggedCall.{FlaggedCall}
 use Rattle.cond_subset.specs.GoesOn.{GoesOn}
 use Rattle.cond_subset.specs.Words.{arithmetic, before_flag}
@@ -29,8 +27,8 @@ use Rattle.cond_subset.proofs.Ranks.{rank_small}
 use Rattle.cond_subset.proofs.LinksExact.{Continued, continued_far, some_continued}
 use Rattle.cond_subset.proofs.Grouping.{grouped, of_grouped}
 use Rattle.cond_subset.proofs.ArgumentsExact.{FurtherArg, Closed, args_of, ends, expression_begun}
-use Rattle.cond_subset.proofs.OperandsExact.{CallRest, WideRest, IsOpen, IsColons, open_is, colons_are, call_to, of_operand, operand_not_empty}
-use Rattle.cond_subset.proofs.CallTails.{Called, Last, OneMore, AfterArgument, Tail, last_tail, tail_last, one_more_tail, tail_one_more}
+use Rattle.cond_subset.proofs.OperandsExact.{WideRest, IsOpen, IsColons, open_is, colons_are, call_to, of_operand, operand_not_empty}
+use Rattle.cond_subset.proofs.CallTails.{Last, OneMore, AfterArgument, Tail, last_tail, tail_last, one_more_tail, tail_one_more}
 use Rattle.cond_subset.proofs.ValuesExact.{Opened, opened_exact}
 
 -- how many arguments stand between the first and the flag
@@ -88,8 +86,8 @@ closed_plain : (at d o : Span) (t : Symbol) (op : Arithmetic × Span) → arithm
     → Spells e (Front at d t o (u ++ z))
 closed_plain at d o t op is a e u z closed continued =
     let operand : Within 0 a (Front at d t o u) =
-        call_to (callee_of (call_of op at)) a (symbols.Word words.Wide at ∷ symbols.Mark marks.DoubleColon d ∷ t ∷ []) (symbols.Mark marks.Open o ∷ u) (front_callee at d t op is)
-        (o, symbols.Mark marks.Open o ∷ [], u, (symbols.Mark marks.Open o, refl, refl), closed, refl) in
+    call_to (callee_of (call_of op at)) a (symbols.Word words.Wide at ∷ symbols.Mark marks.DoubleColon d ∷ t ∷ []) (symbols.Mark marks.Open o ∷ u) (front_callee at d t op is)
+    (o, symbols.Mark marks.Open o ∷ [], u, (symbols.Mark marks.Open o, refl, refl), closed, refl) in
     (grouped 10 e (Front at d t o (u ++ z)) (a, Front at d t o u, z, operand, continued, refl)).1
 
 front_opening : (at d o : Span) (t : Symbol) (op : Arithmetic × Span) → arithmetic t ≡ Some op → SpellsOpening (call_of op at) (Front at d t o [])
@@ -123,8 +121,7 @@ opened_to at d o t op is v w (inr (e₁, u, z, (any, first), rest, cut)) = by_ta
         (inr (e₁ ∷ es, u ++ p, p₁, (u, p, first, many, refl), (k, p₁, [], close, (refl, refl), sym (append-nil p₁)), refl)) continued))
     by_tail (inr (es, p, q, long, many, (m, a₁, b₁, comma, (m₂, a₂, b₂, mark, (flag, a₃, b₃, name, (k, a₄, b₄, close, (same, empty), c₄), c₃), c₂), c₁), cut₂)) =
         let all : suc (between op.0) ≡ before_flag op.0 = one_and_between op.0 in
-        subst (λ x. SpellsValue x (Front at d t o w)) (sym same)
-        (
+        subst (λ x. SpellsValue x (Front at d t o w)) (sym same) (
           omega arith,
           (
             Front at d t o [],
@@ -165,8 +162,7 @@ wide_call e at d w spelled =
         let other = begins_with (meanings.mark marks.Open) o (symbols.Mark marks.DoubleColon d) w p (q ++ z) left (cut ∙ ap (λ l. l ++ z) inside ∙ append_assoc p q z) in
         absurd (cc)
     by_rest a u z continued cut (inr (inr (d₂, p, q, colons, (name, p₁, q₁, word, (o, p₂, q₂, left, closed, c₂), c₁), inside))) =
-        let (is, rest) = first_meant (meanings.mark marks.DoubleColon) d₂ (symbols.Mark marks.DoubleColon d) w p (q ++ z) colons (cut ∙ ap (λ l. l ++ z) inside ∙ append_assoc p q z) in
-        (
+        let (is, rest) = first_meant (meanings.mark marks.DoubleColon) d₂ (symbols.Mark marks.DoubleColon d) w p (q ++ z) colons (cut ∙ ap (λ l. l ++ z) inside ∙ append_assoc p q z) in (
           name,
           a,
           p₁,
@@ -212,14 +208,14 @@ plain_opened at o t op is e w (name, a, p, q, u, z, word, (o₂, left), closed, 
           y ++ (q₁ ++ z),
           (rank_small e₁, first),
           tail_argument (call_of op at) op.0 (e₁ ∷ []) (plain e) (y ++ (q₁ ++ z))
-          (inl (
-            es,
-            y,
-            q₁ ++ z,
-            many,
-            (k, q₁, z, ends (Meant (meanings.mark marks.Close) k) p₂ q₂ q₁ close empty c₂, (e, subst (λ n. Continued 10 n e z) same continued, refl), refl),
-            refl,
-          )),
+              (inl (
+                es,
+                y,
+                q₁ ++ z,
+                many,
+                (k, q₁, z, ends (Meant (meanings.mark marks.Close) k) p₂ q₂ q₁ close empty c₂, (e, subst (λ n. Continued 10 n e z) same continued, refl), refl),
+                refl,
+              )),
           cut ∙ ap (λ l. l ++ z) inside ∙ ap (λ l. (l ++ q₁) ++ z) listed ∙ append_assoc (x ++ y) q₁ z ∙ append_assoc x y (q₁ ++ z),
         )
 
@@ -248,15 +244,15 @@ flag_opened at d o t op is c args flag w (long, (u, z, (u₁, z₁, wide, (u₂,
           y ++ b,
           (rank_small e₁, first),
           tail_argument c c.operation (e₁ ∷ []) (flagged c (e₁ ∷ es) flag) (y ++ b)
-          (inr (
-            es,
-            y,
-            b,
-            omega arith,
-            further_list es y further,
-            (m, a₁, b₁, comma, (m₂, a₂, b₂, mark, (flag, a₃, b₃, name, (k, b₃, [], close, (refl, refl), sym (append-nil b₃)), q₃), q₂), q₁),
-            refl,
-          )),
+              (inr (
+                es,
+                y,
+                b,
+                omega arith,
+                further_list es y further,
+                (m, a₁, b₁, comma, (m₂, a₂, b₂, mark, (flag, a₃, b₃, name, (k, b₃, [], close, (refl, refl), sym (append-nil b₃)), q₃), q₂), q₁),
+                refl,
+              )),
           here ∙ cut₁ ∙ ap (λ l. l ++ b) inside ∙ append_assoc x y b,
         )
 
@@ -313,7 +309,7 @@ opening_of c args flag w (long, (u, z, (u₁, z₁, wide, (u₂, z₂, (d, colon
   word,
   left,
   cut ∙ ap (λ l. l ++ z) c₁ ∙ append_assoc u₁ z₁ z ∙ ap (λ l. u₁ ++ (l ++ z)) c₂ ∙ ap (λ l. u₁ ++ l) (append_assoc u₂ z₂ z) ∙ ap (λ l. u₁ ++ (u₂ ++ (l ++ z))) c₃
-    ∙ ap (λ l. u₁ ++ (u₂ ++ l)) (append_assoc u₃ z₃ z),
+      ∙ ap (λ l. u₁ ++ (u₂ ++ l)) (append_assoc u₃ z₃ z),
 )
 
 abbrev IsArithmetic : Symbol → Type 0
@@ -374,7 +370,7 @@ some_wide at p t op is =
       spelled = (
         rest.value,
         closed_plain at p somewhere t op is (call (callee_of (call_of op at)) nil) rest.value close rest.after
-          (inl (somewhere, close, [], (symbols.Mark marks.Close somewhere, refl, refl), (refl, refl), refl)) rest.spelled,
+            (inl (somewhere, close, [], (symbols.Mark marks.Close somewhere, refl, refl), (refl, refl), refl)) rest.spelled,
         refl,
       );
     }
@@ -430,7 +426,7 @@ module _ (inner : Inner) (bound : ℕ) (good : (r : ℕ) (rest : List Symbol) �
 
   plain_after_colons : (at p : Span) (rest : List Symbol) → length rest + 2 < bound
       → IsExact (λ v w. Plain v (symbols.Word words.Wide at ∷ symbols.Mark marks.DoubleColon p ∷ w)) (GoesOn 10) rest
-        (plain_at inner (symbols.Word words.Wide at ∷ symbols.Mark marks.DoubleColon p ∷ rest))
+      (plain_at inner (symbols.Word words.Wide at ∷ symbols.Mark marks.DoubleColon p ∷ rest))
   plain_after_colons at p rest fits =
       after_first (λ v w. Plain v (symbols.Word words.Wide at ∷ w)) (GoesOn 10) (symbols.Mark marks.DoubleColon p) rest
       (plain_at inner (symbols.Word words.Wide at ∷ symbols.Mark marks.DoubleColon p ∷ rest)) (some_after_wide at p)
@@ -448,7 +444,7 @@ module _ (inner : Inner) (bound : ℕ) (good : (r : ℕ) (rest : List Symbol) �
   -- no call after `wi::add`
   no_open : (at p : Span) (t : Symbol) (op : Arithmetic × Span) → arithmetic t ≡ Some op → (rest : List Symbol) → length rest + 3 < bound → ¬ Begun IsOpen rest
       → IsExact SpellsValue (GoesOn 10) (symbols.Word words.Wide at ∷ symbols.Mark marks.DoubleColon p ∷ t ∷ rest)
-        (plain_at inner (symbols.Word words.Wide at ∷ symbols.Mark marks.DoubleColon p ∷ t ∷ rest))
+      (plain_at inner (symbols.Word words.Wide at ∷ symbols.Mark marks.DoubleColon p ∷ t ∷ rest))
   no_open at p t op is rest fits none =
       let some = some_wide at p t op is in
       let here : Begins (λ v w. Plain v (symbols.Word words.Wide at ∷ symbols.Mark marks.DoubleColon p ∷ w)) (t ∷ []) = record { value = some.value; after = some.after; spelled = some.spelled } in
@@ -460,7 +456,7 @@ module _ (inner : Inner) (bound : ℕ) (good : (r : ℕ) (rest : List Symbol) �
 
   not_open : (at p : Span) (t : Symbol) (m : Option (Arithmetic × Span)) → arithmetic t ≡ m → (rest : List Symbol) → length rest + 3 < bound → ¬ Begun IsOpen rest
       → IsExact SpellsValue (GoesOn 10) (symbols.Word words.Wide at ∷ symbols.Mark marks.DoubleColon p ∷ t ∷ rest)
-        (plain_at inner (symbols.Word words.Wide at ∷ symbols.Mark marks.DoubleColon p ∷ t ∷ rest))
+      (plain_at inner (symbols.Word words.Wide at ∷ symbols.Mark marks.DoubleColon p ∷ t ∷ rest))
   not_open at p t None is rest fits none = no_name at p (t ∷ rest) (omega arith) (λ has. cc (has.1))
   not_open at p t (Some op) is rest fits none = no_open at p t op is rest fits none
 
@@ -477,7 +473,7 @@ module _ (inner : Inner) (bound : ℕ) (good : (r : ℕ) (rest : List Symbol) �
 
   fourth : (at p : Span) (t : Symbol) (rest : List Symbol) → length rest + 3 < bound
       → IsExact SpellsValue (GoesOn 10) (symbols.Word words.Wide at ∷ symbols.Mark marks.DoubleColon p ∷ t ∷ rest)
-        (value_at inner (symbols.Word words.Wide at ∷ symbols.Mark marks.DoubleColon p ∷ t ∷ rest))
+      (value_at inner (symbols.Word words.Wide at ∷ symbols.Mark marks.DoubleColon p ∷ t ∷ rest))
   fourth at p t (symbols.Mark marks.Open o ∷ rest) fits = opened_here at p o t (arithmetic t) refl rest (omega arith)
   fourth at p t rest fits = not_open at p t (arithmetic t) refl rest fits (λ h. h)
 

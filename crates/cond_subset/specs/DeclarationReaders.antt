@@ -1,7 +1,7 @@
 -- Readers of declarations on lists of symbols. They stand between code and grammar: the contracts above rest on the
 -- grammar and the faults alone.
-use Rattle.std.specs.Prelude.{ℕ, ◌+◌, Bool, true, false, List, [], ◌∷◌, ◌++◌, length, Option, Some, None, Ok, Err}
-use Rattle.grammar.specs.Reading.{Answer, ◌>>=◌, meant_at, more_at}
+use Rattle.std.specs.Prelude.{◌≡◌, ◌+◌, Bool, true, false, List, [], ◌∷◌, ◌++◌, length, Option, Some, None, Ok, Err}
+use Rattle.grammar.specs.Reading.{◌>>=◌, meant_at, more_at}
 use Rattle.pm_ops.specs.declared.fault.PatternKind.TheVariants.{CSyntax}
 use Rattle.pm_places.specs.declared.span.Span.{Span}
 use Rattle.pd_text.specs.declared.symbol.Symbol.{Symbol}
@@ -138,3 +138,7 @@ begins_decl symbol = true
 
 abbrev pub block_at : List Symbol → Read (List Decl)
 block_at input = more_at begins_decl decl_at [] input
+
+-- every symbol but `}`: a further declaration may begin at it, well or wrongly
+abbrev pub IsInBlock : Symbol → Type 0
+IsInBlock t = begins_decl t ≡ true

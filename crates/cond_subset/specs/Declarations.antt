@@ -1,5 +1,5 @@
 -- Declarations as plain trees, and the grammar of `with` blocks.
-use Rattle.std.specs.Prelude.{◌≡◌, ℕ, List, [], ◌∷◌, ◌++◌, map, length, Option, Some, None}
+use Rattle.std.specs.Prelude.{◌≡◌, List, map, length}
 use Rattle.grammar.specs.Spelling.{Meant, Many}
 use Rattle.pm_places.specs.declared.span.Span.{Span}
 use Rattle.pd_text.specs.declared.symbol.Symbol.{Symbol}

@@ -4,7 +4,7 @@ use Rattle.pm_places.specs.declared.span.Span.{Span}
 use Rattle.pd_text.specs.declared.symbol.Symbol.{Symbol}
 use Rattle.pd_text.specs.declared.symbol.Symbol.TheVariants as symbols
 use Rattle.pd_text.specs.declared.symbol.Mark.TheVariants as marks
-use Rattle.cond_subset.specs.declared.tree.BinaryOperator.{BinaryOperator}
+use Rattle.pd_ast.specs.declared.operator.BinaryOperator.{BinaryOperator}
 use Rattle.cond_subset.specs.Operators.{binary_operator, rank_of}
 
 -- `(` after a name, and `::` after `wi`

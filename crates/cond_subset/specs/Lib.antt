@@ -7,3 +7,6 @@ pub mod GoesOn
 pub mod Declarations
 pub mod Words
 pub mod DeclarationReaders
+pub mod Syntax
+pub mod WholeReaders
+pub mod Names

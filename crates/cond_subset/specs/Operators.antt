@@ -5,10 +5,10 @@ use Rattle.pd_text.specs.declared.symbol.Symbol.{Symbol}
 use Rattle.pd_text.specs.declared.symbol.Symbol.TheVariants as symbols
 use Rattle.pd_text.specs.declared.symbol.Mark.{Mark}
 use Rattle.pd_text.specs.declared.symbol.Mark.TheVariants as marks
-use Rattle.cond_subset.specs.declared.tree.BinaryOperator.{BinaryOperator}
-use Rattle.cond_subset.specs.declared.tree.BinaryOperator.TheVariants as binaries
-use Rattle.cond_subset.specs.declared.tree.UnaryOperator.{UnaryOperator}
-use Rattle.cond_subset.specs.declared.tree.UnaryOperator.TheVariants as unaries
+use Rattle.pd_ast.specs.declared.operator.BinaryOperator.{BinaryOperator}
+use Rattle.pd_ast.specs.declared.operator.BinaryOperator.TheVariants as binaries
+use Rattle.pd_ast.specs.declared.operator.UnaryOperator.{UnaryOperator}
+use Rattle.pd_ast.specs.declared.operator.UnaryOperator.TheVariants as unaries
 
 abbrev pub binary_mark : Mark → Option BinaryOperator
 binary_mark marks.DoubleBar = Some binaries.Or
@@ -16,12 +16,12 @@ binary_mark marks.DoubleAmpersand = Some binaries.And
 binary_mark marks.Bar = Some binaries.BitOr
 binary_mark marks.Caret = Some binaries.BitXor
 binary_mark marks.Ampersand = Some binaries.BitAnd
-binary_mark marks.Equal = Some binaries.Equal
-binary_mark marks.NotEqual = Some binaries.NotEqual
-binary_mark marks.Less = Some binaries.Less
-binary_mark marks.LessEqual = Some binaries.LessEqual
-binary_mark marks.Greater = Some binaries.Greater
-binary_mark marks.GreaterEqual = Some binaries.GreaterEqual
+binary_mark marks.Equal = Some binaries.Eq
+binary_mark marks.NotEqual = Some binaries.Ne
+binary_mark marks.Less = Some binaries.Lt
+binary_mark marks.LessEqual = Some binaries.Le
+binary_mark marks.Greater = Some binaries.Gt
+binary_mark marks.GreaterEqual = Some binaries.Ge
 binary_mark marks.Plus = Some binaries.Plus
 binary_mark marks.Minus = Some binaries.Minus
 binary_mark marks.Star = Some binaries.Times
@@ -52,12 +52,12 @@ abbrev pub rank_of : BinaryOperator → ℕ
 rank_of binaries.Times = 1
 rank_of binaries.Plus = 2
 rank_of binaries.Minus = 2
-rank_of binaries.Less = 3
-rank_of binaries.LessEqual = 3
-rank_of binaries.Greater = 3
-rank_of binaries.GreaterEqual = 3
-rank_of binaries.Equal = 4
-rank_of binaries.NotEqual = 4
+rank_of binaries.Lt = 3
+rank_of binaries.Le = 3
+rank_of binaries.Gt = 3
+rank_of binaries.Ge = 3
+rank_of binaries.Eq = 4
+rank_of binaries.Ne = 4
 rank_of binaries.BitAnd = 5
 rank_of binaries.BitXor = 6
 rank_of binaries.BitOr = 7

@@ -1,6 +1,6 @@
 -- Readers of expressions on lists of symbols. They stand between code and grammar: the contracts above rest on the
 -- grammar and the faults alone.
-use Rattle.std.specs.Prelude.{ℕ, zero, suc, ◌+◌, ◌==◌, Bool, true, false, List, [], ◌∷◌, length, Option, Some, None, Ok, Err, if◌then◌else◌}
+use Rattle.std.specs.Prelude.{ℕ, zero, suc, ◌==◌, Bool, true, false, List, [], ◌∷◌, length, Option, Some, None, Ok, Err, if◌then◌else◌}
 use Rattle.grammar.specs.Reading.{Answer, ◌>>=◌, meant_at, steps_at, more_at}
 use Rattle.pm_ops.specs.declared.fault.PatternKind.{PatternKind}
 use Rattle.pm_ops.specs.declared.fault.PatternKind.TheVariants.{CSyntax}
@@ -11,8 +11,8 @@ use Rattle.pd_text.specs.declared.symbol.Mark.{Mark}
 use Rattle.pd_text.specs.declared.symbol.Mark.TheVariants as marks
 use Rattle.pd_text.specs.declared.symbol.Word.TheVariants as words
 use Rattle.pd_text.specs.Meanings as meanings
-use Rattle.cond_subset.specs.declared.tree.BinaryOperator.{BinaryOperator}
-use Rattle.cond_subset.specs.declared.tree.UnaryOperator.{UnaryOperator}
+use Rattle.pd_ast.specs.declared.operator.BinaryOperator.{BinaryOperator}
+use Rattle.pd_ast.specs.declared.operator.UnaryOperator.{UnaryOperator}
 use Rattle.cond_subset.specs.declared.tree.Callee.{Callee}
 use Rattle.cond_subset.specs.Operators.{ranked, unary_mark}
 use Rattle.cond_subset.specs.Trees.{Expr, number, capture, named, parens, unary, binary, choose, call, exprs}

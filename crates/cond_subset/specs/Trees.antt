@@ -1,8 +1,8 @@
 -- C parts as plain trees, with the place of each leaf, operator and call in the source.
-use Rattle.std.specs.Prelude.{List, [], ◌∷◌, map}
+use Rattle.std.specs.Prelude.{List, [], ◌∷◌}
 use Rattle.pm_places.specs.declared.span.Span.{Span}
-use Rattle.cond_subset.specs.declared.tree.BinaryOperator.{BinaryOperator}
-use Rattle.cond_subset.specs.declared.tree.UnaryOperator.{UnaryOperator}
+use Rattle.pd_ast.specs.declared.operator.BinaryOperator.{BinaryOperator}
+use Rattle.pd_ast.specs.declared.operator.UnaryOperator.{UnaryOperator}
 use Rattle.cond_subset.specs.declared.tree.Callee.{Callee}
 use Rattle.cond_subset.specs.declared.tree.ExprText.{ExprText, ExprText-F, fold-ExprText}
 use Rattle.cond_subset.specs.declared.tree.ExprText.TheOpen.{Number, Capture, Name, Parens, Unary, Binary, Choose, Call}

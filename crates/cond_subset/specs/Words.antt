@@ -3,7 +3,6 @@ use Rattle.std.specs.Prelude.{ℕ, Option, Some, None}
 use Rattle.pm_places.specs.declared.span.Span.{Span}
 use Rattle.pd_text.specs.declared.symbol.Symbol.{Symbol}
 use Rattle.pd_text.specs.declared.symbol.Symbol.TheVariants as symbols
-use Rattle.pd_text.specs.declared.symbol.Word.{Word}
 use Rattle.pd_text.specs.declared.symbol.Word.TheVariants as words
 use Rattle.cond_subset.specs.declared.tree.DeclWord.{DeclWord}
 use Rattle.cond_subset.specs.declared.tree.DeclWord.TheVariants as declared

@@ -277,7 +277,13 @@ fn read_wide_value(
     ensures shorter { IfOk result (λ x. length x.1.now < length symbols.now) }
 {
     match symbols {
-        [Symbol::Word(Word::Wide, wide), Symbol::Mark(Mark::DoubleColon, _), word, Symbol::Mark(Mark::Open, _), rest @ ..] => {
+        [
+            Symbol::Word(Word::Wide, wide),
+            Symbol::Mark(Mark::DoubleColon, _),
+            word,
+            Symbol::Mark(Mark::Open, _),
+            rest @ ..,
+        ] => {
             match arithmetic(*word) {
                 Some((operation, name)) => {
                     let call = FlaggedCall {

@@ -11,7 +11,8 @@ ghost use Rattle.cond_subset.specs.Readers as readers;
 
 use crate::operators::{ranked, unary_mark};
 use crate::tokens::{offends, read_identifier, read_mark};
-use crate::tree::{BinaryOperator, Callee, ExprText, UnaryOperator};
+use crate::tree::{Callee, ExprText};
+use pd_ast::{BinaryOperator, UnaryOperator};
 use pd_text::{Mark, Symbol, SymbolStop, Word};
 use pm_items::{Boxed, Items};
 use pm_places::Span;
@@ -247,7 +248,12 @@ fn read_chain(
     let mut rest = symbols;
     while let Some(((operator, at), after)) = operator_here(below, rest) {
         let (right, after) = read_within(alloc, room, below, after)?;
-        left = ExprText::Binary(operator, at, Boxed::new(alloc, left)?, Boxed::new(alloc, right)?);
+        left = ExprText::Binary(
+            operator,
+            at,
+            Boxed::new(alloc, left)?,
+            Boxed::new(alloc, right)?,
+        );
         rest = after;
     }
     Ok((left, rest))
@@ -300,7 +306,7 @@ fn read_link(
 
 /// What goes on `first` at each rank up to this one.
 #[cycle(expression)]
-#[tactic(auto, using(crate::proofs::ReaderLemmas::links_stop))]
+#[tactic(auto, using(crate::proofs::Depths::links_stop))]
 pub(crate) fn read_links(
     alloc: Global,
     room: usize,

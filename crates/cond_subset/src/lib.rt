@@ -3,10 +3,16 @@
 
 mod declaration;
 mod expression;
+mod names;
 mod operators;
+mod part;
+mod scope;
+#[cfg(test)]
+mod tests;
 mod tokens;
 mod tree;
 
-pub use tree::{
-    Arithmetic, BinaryOperator, Callee, DeclText, DeclWord, ExprText, FlaggedCall, UnaryOperator, ValueText,
-};
+pub use names::{check_block_names, check_names};
+pub use part::{block_syntax, brace_syntax, cond_syntax, read_block, read_brace, read_expression};
+pub use scope::{Local, Scope};
+pub use tree::{Arithmetic, Callee, DeclText, DeclWord, ExprText, FlaggedCall, ValueText};

@@ -3,7 +3,7 @@
 ghost use Rattle.std.specs.Prelude.{◌≡◌};
 ghost use Rattle.cond_subset.specs.Operators.{binary_mark, unary_mark, rank_of, ranked};
 
-use crate::tree::{BinaryOperator, UnaryOperator};
+use pd_ast::{BinaryOperator, UnaryOperator};
 use pd_text::{Mark, Symbol};
 use pm_places::Span;
 
@@ -17,12 +17,12 @@ fn binary_mark(mark: Mark) -> Option<BinaryOperator>
         Mark::Bar => Some(BinaryOperator::BitOr),
         Mark::Caret => Some(BinaryOperator::BitXor),
         Mark::Ampersand => Some(BinaryOperator::BitAnd),
-        Mark::Equal => Some(BinaryOperator::Equal),
-        Mark::NotEqual => Some(BinaryOperator::NotEqual),
-        Mark::Less => Some(BinaryOperator::Less),
-        Mark::LessEqual => Some(BinaryOperator::LessEqual),
-        Mark::Greater => Some(BinaryOperator::Greater),
-        Mark::GreaterEqual => Some(BinaryOperator::GreaterEqual),
+        Mark::Equal => Some(BinaryOperator::Eq),
+        Mark::NotEqual => Some(BinaryOperator::Ne),
+        Mark::Less => Some(BinaryOperator::Lt),
+        Mark::LessEqual => Some(BinaryOperator::Le),
+        Mark::Greater => Some(BinaryOperator::Gt),
+        Mark::GreaterEqual => Some(BinaryOperator::Ge),
         Mark::Plus => Some(BinaryOperator::Plus),
         Mark::Minus => Some(BinaryOperator::Minus),
         Mark::Star => Some(BinaryOperator::Times),
@@ -42,25 +42,20 @@ pub(crate) fn unary_mark(mark: Mark) -> Option<UnaryOperator>
     }
 }
 
-impl BinaryOperator {
-    /// How loosely it binds: from `*`, which binds tightest, to `||`.
-    pub fn rank(self) -> usize
-        ensures { result ≡ rank_of self }
-    {
-        match self {
-            BinaryOperator::Times => 1,
-            BinaryOperator::Plus | BinaryOperator::Minus => 2,
-            BinaryOperator::Less
-            | BinaryOperator::LessEqual
-            | BinaryOperator::Greater
-            | BinaryOperator::GreaterEqual => 3,
-            BinaryOperator::Equal | BinaryOperator::NotEqual => 4,
-            BinaryOperator::BitAnd => 5,
-            BinaryOperator::BitXor => 6,
-            BinaryOperator::BitOr => 7,
-            BinaryOperator::And => 8,
-            BinaryOperator::Or => 9,
-        }
+/// How loosely an operator binds: from `*`, which binds tightest, to `||`.
+pub fn rank_of(operator: BinaryOperator) -> usize
+    ensures { result ≡ rank_of operator }
+{
+    match operator {
+        BinaryOperator::Times => 1,
+        BinaryOperator::Plus | BinaryOperator::Minus => 2,
+        BinaryOperator::Lt | BinaryOperator::Le | BinaryOperator::Gt | BinaryOperator::Ge => 3,
+        BinaryOperator::Eq | BinaryOperator::Ne => 4,
+        BinaryOperator::BitAnd => 5,
+        BinaryOperator::BitXor => 6,
+        BinaryOperator::BitOr => 7,
+        BinaryOperator::And => 8,
+        BinaryOperator::Or => 9,
     }
 }
 
@@ -72,7 +67,7 @@ pub(crate) fn ranked(rank: usize, symbol: Symbol) -> Option<(BinaryOperator, Spa
         return None;
     };
     match binary_mark(mark) {
-        Some(operator) if operator.rank() == rank => Some((operator, at)),
+        Some(operator) if rank_of(operator) == rank => Some((operator, at)),
         _ => None,
     }
 }

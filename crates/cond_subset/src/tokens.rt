@@ -22,7 +22,10 @@ pub(crate) fn offends(symbols: &[Symbol]) -> SymbolFault<'_>
 }
 
 /// The place of this mark.
-pub(crate) fn read_mark(asked: Mark, symbols: &[Symbol]) -> Result<(Span, &[Symbol]), SymbolFault<'_>>
+pub(crate) fn read_mark(
+    asked: Mark,
+    symbols: &[Symbol],
+) -> Result<(Span, &[Symbol]), SymbolFault<'_>>
     ensures reads { Gives (λ x. (x.0, x.1.now)) result (readers.mark_at asked symbols.now) }
     ensures shorter { IfOk result (λ x. length x.1.now < length symbols.now) }
 {
@@ -48,7 +51,10 @@ pub(crate) fn read_identifier(symbols: &[Symbol]) -> Result<(Span, &[Symbol]), S
 }
 
 /// The place of this word.
-pub(crate) fn read_word(asked: Word, symbols: &[Symbol]) -> Result<(Span, &[Symbol]), SymbolFault<'_>>
+pub(crate) fn read_word(
+    asked: Word,
+    symbols: &[Symbol],
+) -> Result<(Span, &[Symbol]), SymbolFault<'_>>
     ensures reads { Gives (λ x. (x.0, x.1.now)) result (word_at asked symbols.now) }
     ensures shorter { IfOk result (λ x. length x.1.now < length symbols.now) }
 {

@@ -1,51 +1,8 @@
 //! Trees of C parts as they are written: each leaf, operator and call keeps its place in the source.
 
+use pd_ast::{BinaryOperator, UnaryOperator};
 use pm_items::{Boxed, Items};
 use pm_places::Span;
-
-/// An operator between two operands.
-#[derive(Clone, Copy, Debug, PartialEq, Eq)]
-pub enum BinaryOperator {
-    /// `||`
-    Or,
-    /// `&&`
-    And,
-    /// `|`
-    BitOr,
-    /// `^`
-    BitXor,
-    /// `&`
-    BitAnd,
-    /// `==`
-    Equal,
-    /// `!=`
-    NotEqual,
-    /// `<`
-    Less,
-    /// `<=`
-    LessEqual,
-    /// `>`
-    Greater,
-    /// `>=`
-    GreaterEqual,
-    /// `+`
-    Plus,
-    /// `-`
-    Minus,
-    /// `*`
-    Times,
-}
-
-/// An operator before an operand.
-#[derive(Clone, Copy, Debug, PartialEq, Eq)]
-pub enum UnaryOperator {
-    /// `!`
-    Not,
-    /// `~`
-    Complement,
-    /// `-`
-    Negate,
-}
 
 /// The name of a call, and the `wi` before its `::`, where they are written.
 #[derive(Clone, Copy, Debug, PartialEq, Eq)]

@@ -7,7 +7,6 @@ use Rattle.pd_text.specs.declared.symbol.Word.{Word}
 use Rattle.pd_text.specs.declared.symbol.Word.TheVariants as words
 use Rattle.pd_text.specs.declared.symbol.Mark.{Mark}
 use Rattle.pd_text.specs.declared.symbol.Mark.TheVariants as marks
-use Rattle.pd_text.specs.declared.symbol.Capture.{Capture}
 
 -- the two are one word
 abbrev pub same_word : Word → Word → Bool

@@ -1,9 +1,8 @@
 -- What the search leaves of the contracts of the readers of expressions.
-use Rattle.std.proofs.Common.{◌-◌, subst, sym, arith}
+use Rattle.std.proofs.Common.{subst, sym, arith}
 use Rattle.grammar.specs.Gives.{GivesInMemory}
 use Rattle.cond_subset.specs.Trees.{expr_of}
-use Rattle.cond_subset.specs.Readers.{readers}
-use Rattle.cond_subset.proofs.ReaderLemmas.{one_deeper, links_stop}
+use Rattle.cond_subset.proofs.Depths.{one_deeper}
 use Rattle.cond_subset.proofs.expression.+expression.Goals as goal
 
 pub read_within-returns-clause-reads : goal.read_within-returns-clause-reads

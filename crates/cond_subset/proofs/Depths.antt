@@ -1,5 +1,5 @@
 -- What the readers of expressions answer, one level deeper and rank by rank.
-use Rattle.std.proofs.Common.{◌≡◌, ℕ, zero, suc, ◌+◌, ◌-◌, ◌<◌, List, Ok, refl, sym, ap, subst, ◌∙◌, arith}
+use Rattle.std.proofs.Common.{◌≡◌, ℕ, zero, suc, ◌+◌, ◌-◌, ◌<◌, List, Ok, sym, ap, subst, arith}
 use Rattle.grammar.specs.declared.stop.Stop.{Stop}
 use Rattle.grammar.specs.Reading.{◌>>=◌}
 use Rattle.grammar.specs.Gives.{StopsAs}
@@ -29,5 +29,5 @@ pub links_stop : (inner : Inner) (k r : ℕ) (first left : Expr) (input rest : L
     → links_at inner k first input ≡ Ok (left, rest) → StopsAs stop (link_at inner k left rest) → StopsAs stop (links_at inner r first input)
 links_stop inner k r first left input rest stop below read stopped =
     let here : StopsAs stop (links_at inner (suc k) first input) =
-        subst (λ a. StopsAs stop (a >>= λ x. link_at inner k x.0 x.1)) (sym read) stopped in
+    subst (λ a. StopsAs stop (a >>= λ x. link_at inner k x.0 x.1)) (sym read) stopped in
     still_stopped inner (r - suc k) k r first input stop (omega arith) here

@@ -1,0 +1,7 @@
+pub mod CValues
+pub mod Calls
+pub mod Declarations
+pub mod Environments
+pub mod Operators
+pub mod Values
+pub mod Words
