@@ -4,3 +4,6 @@ mod PatternDepth
 mod BoundedReading
 mod HeadsExact
 mod PatternsExact
+mod LeafDepth
+mod PartsExact
+mod LeavesExact

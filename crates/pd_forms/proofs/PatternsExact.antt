@@ -8,7 +8,7 @@ use Rattle.grammar.proofs.Parts as parts
 use Rattle.grammar.proofs.Sequence.{token_then}
 use Rattle.grammar.proofs.Recursion.{by_length}
 use Rattle.grammar.proofs.EveryInput.{Reads, one_token, seen_by}
-use Rattle.grammar.proofs.Starts.{Begun, HasMeaning, meant_begun, front_begun, widen_begun}
+use Rattle.grammar.proofs.Starts.{Begun, meant_begun, front_begun, widen_begun}
 use Rattle.pm_ops.specs.declared.fault.PatternKind.TheVariants.{Syntax}
 use Rattle.pm_places.specs.declared.span.Span.{Span}
 use Rattle.pd_text.specs.declared.symbol.Symbol.{Symbol}
@@ -20,15 +20,11 @@ use Rattle.cond_subset.proofs.SymbolsExact.{somewhere, some_mark, some_identifie
 use Rattle.pd_forms.specs.declared.tree.HeadText.{HeadText}
 use Rattle.pd_forms.specs.SymbolReaders.{mark_at, identifier_at, joined, maybe_at, head_after_at}
 use Rattle.pd_forms.specs.Trees.{Pattern, capture, predicate, operation, Patterns, nil, cons, operands}
-use Rattle.pd_forms.specs.PatternReaders.{Inner, Start, captured, named, opened, start, begins_pattern, operation_at, after_start, pattern_at, patterns_at}
-use Rattle.pd_forms.specs.Grammar.{unjoined, SpellsMaybe, SpellsPattern, SpellsPatterns}
+use Rattle.pd_forms.specs.PatternReaders.{whole_pattern_at, Inner, Start, captured, named, opened, start, begins_pattern, operation_at, after_start, pattern_at, patterns_at}
+use Rattle.pd_forms.specs.Grammar.{IsJoined, unjoined, SpellsMaybe, SpellsPattern, SpellsPatterns}
 use Rattle.pd_forms.proofs.BoundedReading as bounded
 use Rattle.pd_forms.proofs.BoundedReading.{ReadsBelow}
 use Rattle.pd_forms.proofs.HeadsExact.{maybe_reads, maybe_begun, items_begun, GoesOnHead, question_goes_on, colon_no_question, HeadAfter, head_after_reads}
-
--- what can go on a pattern
-abbrev pub IsJoined : Symbol → Type 0
-IsJoined = HasMeaning joined
 
 -- the first symbol
 
@@ -327,5 +323,5 @@ patterns_exact = by_length patterns_at AreExact deeper
         (λ first. after_start (patterns_at n) first.0 first.1)
         (λ first rest shorter. (after_start_below (length input) (patterns_at n) inner first).exact rest shorter))
 
-pub pattern_reads : Reads SpellsPattern IsJoined (λ input. patterns_at (length input + 1) input)
+pub pattern_reads : Reads SpellsPattern IsJoined whole_pattern_at
 pattern_reads = record { some = some_pattern; exact = λ input. patterns_exact (length input + 1) input (omega arith) }

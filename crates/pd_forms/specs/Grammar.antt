@@ -46,3 +46,7 @@ abbrev mutual
   pub SpellsPatterns : Patterns → List Symbol → Type 0
   SpellsPatterns nil w = w ≡ []
   SpellsPatterns (cons p ps) w = (SpellsPattern p ▸ SpellsPatterns ps) w
+
+-- what can go on a pattern: a joined capture goes on a name
+abbrev pub IsJoined : Symbol → Type 0
+IsJoined t = (c : Capture) × (joined t ≡ Some c)

@@ -1,6 +1,6 @@
 -- Readers of patterns on lists of symbols. They stand between code and grammar: the contracts above rest on the grammar
 -- and the faults alone.
-use Rattle.std.specs.Prelude.{ℕ, zero, suc, Bool, List, [], Option, Some, None, Ok, Err, if◌then◌else◌, is_some}
+use Rattle.std.specs.Prelude.{ℕ, zero, suc, ◌+◌, length, Bool, List, [], Option, Some, None, Ok, Err, if◌then◌else◌, is_some}
 use Rattle.grammar.specs.Reading.{◌>>=◌, meant_at, more_at}
 use Rattle.pm_ops.specs.declared.fault.PatternKind.TheVariants.{Syntax}
 use Rattle.pm_places.specs.declared.span.Span.{Span}
@@ -54,3 +54,7 @@ pattern_at inner input = meant_at start Syntax input >>= λ first. after_start i
 abbrev pub patterns_at : ℕ → Inner
 patterns_at zero input = Err (Syntax, input)
 patterns_at (suc n) input = pattern_at (patterns_at n) input
+
+-- a whole pattern
+abbrev pub whole_pattern_at : Inner
+whole_pattern_at input = patterns_at (length input + 1) input

@@ -2,13 +2,14 @@
 use Rattle.std.specs.Prelude.{List, [], ◌∷◌, Option, Some, None, Ok, if◌then◌else◌}
 use Rattle.grammar.specs.Reading.{Answer, ◌>>=◌, meant_at}
 use Rattle.pm_ops.specs.declared.fault.PatternKind.{PatternKind}
-use Rattle.pm_ops.specs.declared.fault.PatternKind.TheVariants.{Syntax}
+use Rattle.pm_ops.specs.declared.fault.PatternKind.TheVariants.{Syntax, CSyntax}
 use Rattle.pm_places.specs.declared.span.Span.{Span}
 use Rattle.pd_text.specs.declared.symbol.Symbol.{Symbol}
 use Rattle.pd_text.specs.declared.symbol.Symbol.TheVariants as symbols
 use Rattle.pd_text.specs.declared.symbol.Capture.{Capture}
 use Rattle.pd_text.specs.declared.symbol.Mark.{Mark}
 use Rattle.pd_text.specs.declared.symbol.Mark.TheVariants as marks
+use Rattle.pd_text.specs.declared.symbol.Word.{Word}
 use Rattle.pd_text.specs.Meanings as meanings
 use Rattle.pd_forms.specs.declared.tree.HeadText.{HeadText}
 
@@ -57,3 +58,10 @@ head_after_at name asked input = do
   marked ← maybe_mark_at asked input
   label ← label_at marked.1
   Ok (record { name = name; marked = marked.0; label = label.0 }, label.1)
+
+-- the mark that closes a C part
+abbrev pub closing_at : Mark → List Symbol → Read Span
+closing_at asked input = meant_at (meanings.mark asked) CSyntax input
+
+abbrev pub word_at : Word → List Symbol → Read Span
+word_at asked input = meant_at (meanings.word asked) Syntax input

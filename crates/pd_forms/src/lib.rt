@@ -3,10 +3,14 @@
 //! Both go over the symbols of a whole file. Trees keep the place of each name, flag and capture in the source.
 #![tactic(auto)]
 
+mod c_parts;
 mod depth;
+mod leaf;
 mod pattern;
 mod tokens;
 mod tree;
 
 pub use depth::check_depth;
+pub use leaf::read_leaf;
+pub use pattern::read_pattern;
 pub use tree::{HeadText, LeafText, PatternText, ResultText};

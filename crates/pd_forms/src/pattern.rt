@@ -6,6 +6,8 @@ ghost use Rattle.std.specs.Prelude.{◌≡◌, ◌+◌, ◌<◌, ◌≤◌, leng
 ghost use Rattle.grammar.specs.Gives.{GivesInMemory};
 ghost use Rattle.grammar.specs.Reading.{first_is, more_at};
 ghost use Rattle.pd_forms.specs.Trees.{pattern_of};
+ghost use Rattle.grammar.specs.Exact.{IsExact};
+ghost use Rattle.pd_forms.specs.Grammar.{IsJoined, SpellsPattern};
 ghost use Rattle.pd_forms.specs.PatternReaders as readers;
 
 use crate::tokens::{offends, read_head_after, read_identifier, read_joined, read_mark};
@@ -43,7 +45,7 @@ fn read_operands(
     let mut operands = Items::new(alloc);
     let mut rest = symbols;
     while begins_pattern(rest) {
-        let (operand, after) = read_pattern(alloc, room, rest)?;
+        let (operand, after) = read_within(alloc, room, rest)?;
         operands.push(operand)?;
         rest = after;
     }
@@ -96,7 +98,7 @@ fn read_any(
 
 /// A pattern.
 #[cycle(pattern)]
-pub(crate) fn read_pattern(
+pub(crate) fn read_within(
     alloc: Global,
     room: usize,
     symbols: &[Symbol],
@@ -106,4 +108,17 @@ pub(crate) fn read_pattern(
     ensures shorter { IfOk result (λ x. length x.1.now < length symbols.now) }
 {
     read_any(alloc, room - 1, symbols)
+}
+
+/// The pattern that the symbols begin with, and what is after it.
+pub fn read_pattern(
+    alloc: Global,
+    symbols: &[Symbol],
+) -> Result<(PatternText, &[Symbol]), SymbolStop<'_>>
+    ensures reads { GivesInMemory (λ x. (pattern_of x.0, x.1.now)) result (readers.whole_pattern_at symbols.now) }
+    // What is read is spelled so, as far as a pattern goes, and a fault is the first.
+    ensures exact { IsExact SpellsPattern IsJoined symbols.now (readers.whole_pattern_at symbols.now) }
+    ensures shorter { IfOk result (λ x. length x.1.now < length symbols.now) }
+{
+    read_within(alloc, symbols.len() + 1, symbols)
 }

@@ -7,7 +7,7 @@ ghost use Rattle.pd_forms.specs.SymbolReaders as readers;
 
 use crate::tree::HeadText;
 use grammar::Fault;
-use pd_text::{Capture, Mark, Symbol, SymbolFault, identifier, mark};
+use pd_text::{Capture, Mark, Symbol, SymbolFault, Word, identifier, mark, word};
 use pm_ops::PatternKind;
 use pm_places::Span;
 
@@ -117,4 +117,39 @@ pub(crate) fn read_head_after(
         label,
     };
     Ok((head, rest))
+}
+
+/// The mark that closes a C part.
+pub(crate) fn read_closing(
+    asked: Mark,
+    symbols: &[Symbol],
+) -> Result<(Span, &[Symbol]), SymbolFault<'_>>
+    ensures reads { Gives (λ x. (x.0, x.1.now)) result (readers.closing_at asked symbols.now) }
+    ensures shorter { IfOk result (λ x. length x.1.now < length symbols.now) }
+{
+    if let [first, rest @ ..] = symbols {
+        if let Some(at) = mark(*first, asked) {
+            return Ok((at, rest));
+        }
+    }
+    Err(Fault {
+        kind: PatternKind::CSyntax,
+        rest: symbols,
+    })
+}
+
+/// The place of this word.
+pub(crate) fn read_word(
+    asked: Word,
+    symbols: &[Symbol],
+) -> Result<(Span, &[Symbol]), SymbolFault<'_>>
+    ensures reads { Gives (λ x. (x.0, x.1.now)) result (readers.word_at asked symbols.now) }
+    ensures shorter { IfOk result (λ x. length x.1.now < length symbols.now) }
+{
+    if let [first, rest @ ..] = symbols {
+        if let Some(at) = word(*first, asked) {
+            return Ok((at, rest));
+        }
+    }
+    Err(offends(symbols))
 }

@@ -9,8 +9,8 @@ use Rattle.pd_forms.specs.PatternReaders.{begins_pattern, patterns_at}
 use Rattle.pd_forms.proofs.PatternDepth.{one_deeper}
 use Rattle.pd_forms.proofs.pattern.+pattern.Goals as goal
 
-pub read_pattern-returns-clause-reads : goal.read_pattern-returns-clause-reads
-read_pattern-returns-clause-reads t c =
+pub read_within-returns-clause-reads : goal.read_within-returns-clause-reads
+read_within-returns-clause-reads t c =
     subst (λ answer. GivesInMemory (λ x. (pattern_of x.0, x.1.now)) c.read_any.result answer)
     (sym (one_deeper c.args.room c.args.symbols.now (omega (arith, c.requires.roomy)))) c.read_any.ensures.reads
 

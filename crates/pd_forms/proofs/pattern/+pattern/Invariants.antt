@@ -6,8 +6,8 @@ use Rattle.pd_forms.specs.Trees.{pattern_of}
 use Rattle.pd_forms.specs.PatternReaders.{patterns_at, begins_pattern}
 use Rattle.pd_forms.proofs.pattern.+pattern.Given as goal
 
-abbrev pub decreases-read_pattern : goal.decreases-read_pattern
-decreases-read_pattern l = 4 * l.room
+abbrev pub decreases-read_within : goal.decreases-read_within
+decreases-read_within l = 4 * l.room
 
 abbrev pub decreases-read_operands : goal.decreases-read_operands
 decreases-read_operands l = 4 * l.room + 1
