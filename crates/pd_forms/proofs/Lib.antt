@@ -7,3 +7,6 @@ mod PatternsExact
 mod LeafDepth
 mod PartsExact
 mod LeavesExact
+mod ResultDepth
+mod SwitchItems
+mod ResultsExact

@@ -8,3 +8,4 @@ pub mod PatternReaders
 pub mod PartReaders
 pub mod LeafReaders
 pub mod ResultGrammar
+pub mod ResultReaders

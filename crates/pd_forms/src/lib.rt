@@ -7,6 +7,9 @@ mod c_parts;
 mod depth;
 mod leaf;
 mod pattern;
+mod result;
+#[cfg(test)]
+mod tests;
 mod tokens;
 mod tree;
 
