@@ -83,7 +83,7 @@ AfterHead at head = Then (Many SpellsLeaf) (ToClose at head)
 abbrev pub AfterName : Span → Span → Spelling Symbol Leaf
 AfterName at name = Then (HeadAfter name marks.Exclamation) (AfterHead at)
 
-abbrev AfterStart : Start → Spelling Symbol Leaf
+abbrev pub AfterStart : Start → Spelling Symbol Leaf
 AfterStart (captured at) = Nothing (capture at)
 AfterStart (braced at) = Mapped (brace at) InBraces
 AfterStart (opened at) = Then (Meant leaf_name) (AfterName at)
@@ -163,7 +163,7 @@ start_braced (symbols.Mark marks.Open p) at e = absurd (cc)
 start_braced (symbols.Mark marks.OpenBrace p) at e = cc
 start_braced t at e = absurd (cc)
 
-start_opened : (t : Symbol) (at : Span) → start t ≡ Some (opened at) → meanings.mark marks.Open t ≡ Some at
+pub start_opened : (t : Symbol) (at : Span) → start t ≡ Some (opened at) → meanings.mark marks.Open t ≡ Some at
 start_opened (symbols.Capture d) at e = absurd (flag_not_opened (d.joined || d.by_value) d.at at e)
 start_opened (symbols.Mark marks.Open p) at e = cc
 start_opened (symbols.Mark marks.OpenBrace p) at e = absurd (cc)
@@ -177,7 +177,7 @@ braced_start : (t : Symbol) (at : Span) → meanings.mark marks.OpenBrace t ≡ 
 braced_start (symbols.Mark marks.OpenBrace p) at e = cc
 braced_start t at e = absurd (cc)
 
-opened_start : (t : Symbol) (at : Span) → meanings.mark marks.Open t ≡ Some at → start t ≡ Some (opened at)
+pub opened_start : (t : Symbol) (at : Span) → meanings.mark marks.Open t ≡ Some at → start t ≡ Some (opened at)
 opened_start (symbols.Mark marks.Open p) at e = cc
 opened_start t at e = absurd (cc)
 
@@ -191,10 +191,10 @@ many_of_leaves (cons l ls) w (u, v, first, others, cut) =
     let (qs, same, many) = many_of_leaves ls v others in
     (l ∷ qs, ap (cons l) same, (u, v, first, many, cut))
 
-abbrev Form : Spelling Symbol Leaf
+abbrev pub Form : Spelling Symbol Leaf
 Form = Then (Meant start) AfterStart
 
-to_leaf : (l : Leaf) (w : List Symbol) → Form l w → SpellsLeaf l w
+pub to_leaf : (l : Leaf) (w : List Symbol) → Form l w → SpellsLeaf l w
 to_leaf l w (captured at, u, v, (t, is, one), (same, empty), cut) =
     subst (λ q. SpellsLeaf q w) (sym same) (t, start_captured t at is, cut ∙ ap (λ k. k ++ v) one ∙ ap (λ k. t ∷ k) empty)
 to_leaf l w (braced at, u, v, (t, is, one), (e, (f, u₁, v₁, spelled, (k, close, value), cut₁), same), cut) =
@@ -208,7 +208,7 @@ to_leaf l w (opened at, u, v, (t, is, one), (name, u₁, v₁, word, (head, u₂
       cut,
     )
 
-of_leaf : (l : Leaf) (w : List Symbol) → SpellsLeaf l w → Form l w
+pub of_leaf : (l : Leaf) (w : List Symbol) → SpellsLeaf l w → Form l w
 of_leaf (capture at) w (t, is, one) = (captured at, w, [], (t, captured_start t at is, one), (refl, refl), sym (append-nil w))
 of_leaf (brace at e) w (u, v, (t, is, one), (u₁, v₁, spelled, (k, close), cut₁), cut) =
     (braced at, u, v, (t, braced_start t at is, one), (e, (e, u₁, v₁, spelled, (k, close, refl), cut₁), refl), cut)

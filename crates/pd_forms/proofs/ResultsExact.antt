@@ -1,8 +1,7 @@
 -- Results are read exactly, at every input.
-use Rattle.std.proofs.Common.{◌≡◌, ℕ, suc, ◌+◌, ◌<◌, ◌≤◌, Bool, true, false, ◌&&◌, if◌then◌else◌, List, [], ◌∷◌, ◌++◌, length, Option, Some, None, Ok, refl, sym, ap, subst, ◌∙◌, ◌⊎◌, inl, inr, arith, append_assoc}
-use Rattle.std.proofs.lemmas.List.{append-nil}
+use Rattle.std.proofs.Common.{◌≡◌, ℕ, suc, ◌+◌, ◌<◌, Bool, true, false, ◌&&◌, if◌then◌else◌, List, [], ◌∷◌, ◌++◌, length, Some, None, Ok, refl, sym, ap, subst, ◌∙◌, inl, inr, arith, append_assoc}
 use Rattle.grammar.specs.Spelling.{Spelling, Begins, Nothing, Meant, Then, Mapped, Steps, stays, goes, Many, Item}
-use Rattle.grammar.specs.Reading.{◌>>=◌, meant_at, first_is, and_item, steps_at}
+use Rattle.grammar.specs.Reading.{◌>>=◌, meant_at, first_is, and_item}
 use Rattle.grammar.specs.Exact.{IsExact}
 use Rattle.grammar.proofs.Parts as parts
 use Rattle.grammar.proofs.Sequence.{Never, token_then}
@@ -15,24 +14,23 @@ use Rattle.pm_places.specs.declared.span.Span.{Span}
 use Rattle.pd_text.specs.declared.symbol.Symbol.{Symbol}
 use Rattle.pd_text.specs.declared.symbol.Symbol.TheVariants as symbols
 use Rattle.pd_text.specs.declared.symbol.Mark.TheVariants as marks
-use Rattle.pd_text.specs.declared.symbol.Word.{Word}
 use Rattle.pd_text.specs.declared.symbol.Word.TheVariants as words
 use Rattle.pd_text.specs.Meanings as meanings
 use Rattle.cond_subset.specs.Trees.{Expr}
-use Rattle.cond_subset.specs.Declarations.{Decl}
 use Rattle.cond_subset.proofs.SymbolsExact.{somewhere, some_mark, some_word}
 use Rattle.pd_forms.specs.SymbolReaders.{Read, mark_at, word_at}
 use Rattle.pd_forms.specs.PartReaders.{condition_at, declarations_at, braced_at}
-use Rattle.pd_forms.specs.Results.{Leaf, capture, brace, operation, Result, leaf, when, choose, switch, bound, Results, none, more, results}
+use Rattle.pd_forms.specs.Results.{Leaf, capture, brace, Result, leaf, when, choose, switch, bound, Results, none, more, results}
 use Rattle.pd_forms.specs.LeafReaders.{leaf_name, Start, captured, braced, opened, start, begins_result, named_at, leaves_at}
-use Rattle.pd_forms.specs.ResultReaders.{Inner, Opening, conditional, switched, with_block, named, opening, is_case, ends_with_case, close_if_at, close_if_else_at, after_first_at, conditional_at, case_at, switch_step, items_at, switched_at, close_with_at, with_at, leaf_named_at, after_opening, opened_at, after_start, result_at, results_at}
-use Rattle.pd_forms.specs.ResultGrammar.{SpellsCondition, SpellsDeclarations, SpellsLeaf, AreCases, SpellsResult, SpellsResults}
+use Rattle.pd_forms.specs.ResultReaders.{Inner, Opening, conditional, switched, with_block, named, opening, is_case, ends_with_case, close_if_at, close_if_else_at, after_first_at, conditional_at, case_at, switch_step, items_at, switched_at, close_with_at, with_at, leaf_named_at, after_opening, after_start, result_at, results_at, whole_result_at}
+use Rattle.pd_forms.specs.ResultGrammar.{SpellsCondition, SpellsDeclarations, AreCases, SpellsResult, SpellsResults}
 use Rattle.pd_forms.proofs.BoundedReading as bounded
 use Rattle.pd_forms.proofs.BoundedReading.{ReadsBelow}
 use Rattle.pd_forms.proofs.PartsExact.{InBraces, braced_reads, condition_reads, declarations_reads}
 use Rattle.pd_forms.proofs.PatternsExact.{IsClose, close_is}
+use Rattle.pd_forms.proofs.SwitchItems.{ends_with_last}
 use Rattle.pd_forms.proofs.LeavesExact as leaf_proofs
-use Rattle.pd_forms.proofs.LeavesExact.{IsStart, leaf_begun, open_starts, close_not_start, some_start, some_leaf}
+use Rattle.pd_forms.proofs.LeavesExact.{IsStart, leaf_begun, open_starts, close_not_start, some_start, some_leaf, to_leaf, of_leaf, start_opened, opened_start}
 
 -- the first symbol
 
@@ -241,25 +239,20 @@ many_of_results (more r rs) w (u, v, first, others, cut) =
     let (qs, same, many) = many_of_results rs v others in
     (r ∷ qs, ap (more r) same, (u, v, first, many, cut))
 
-last_case : (before : List Result) (x : Result) → ends_with_case (before ++ x ∷ []) ≡ is_case x
-last_case [] x = refl
-last_case (r ∷ []) x = refl
-last_case (r ∷ s ∷ rs) x = last_case (s ∷ rs) x
-
 -- the items that steps put after those before, the last of which is given
 items_of_steps : (before : List Result) (last : Result) (start now : List Result) (w : List Symbol) → start ≡ before ++ last ∷ [] → Steps Step start now w
     → (rs : List Result) × (now ≡ before ++ last ∷ rs) × Many SpellsResult rs w × AreCases last (results rs)
 items_of_steps before last start now w is (stays same empty) = ([], sym same ∙ is, empty, tt)
 items_of_steps before last start now w is (goes {m = m} {u = u} {v = v} (case, (x, spelled, item)) others cut) =
     let (rs, whole, many, cases) = items_of_steps (before ++ last ∷ []) x m now v (item ∙ ap (λ l. l ++ x ∷ []) is) others in
-    (x ∷ rs, whole ∙ append_assoc before (last ∷ []) (x ∷ rs), (u, v, spelled, many, cut), (sym (last_case before last) ∙ sym (ap ends_with_case is) ∙ case, cases))
+    (x ∷ rs, whole ∙ append_assoc before (last ∷ []) (x ∷ rs), (u, v, spelled, many, cut), (sym (ends_with_last before last) ∙ sym (ap ends_with_case is) ∙ case, cases))
 
 steps_of_items : (before : List Result) (last : Result) (rs : List Result) (w : List Symbol) → Many SpellsResult rs w → AreCases last (results rs)
     → Steps Step (before ++ last ∷ []) (before ++ last ∷ rs) w
 steps_of_items before last [] w empty cases = stays refl empty
 steps_of_items before last (x ∷ rs) w (u, v, spelled, many, cut) (case, cases) =
     let others : Steps Step ((before ++ last ∷ []) ++ x ∷ []) ((before ++ last ∷ []) ++ x ∷ rs) v = steps_of_items (before ++ last ∷ []) x rs v many cases in
-    goes (last_case before last ∙ case, (x, spelled, refl)) (subst (λ l. Steps Step ((before ++ last ∷ []) ++ x ∷ []) l v) (append_assoc before (last ∷ []) (x ∷ rs)) others) cut
+    goes (ends_with_last before last ∙ case, (x, spelled, refl)) (subst (λ l. Steps Step ((before ++ last ∷ []) ++ x ∷ []) l v) (append_assoc before (last ∷ []) (x ∷ rs)) others) cut
 
 -- the symbols after `(`
 
@@ -308,3 +301,119 @@ name_opening (symbols.Word words.With p) at e = absurd (cc)
 name_opening (symbols.Word w p) at e = cc
 name_opening (symbols.Identifier p) at e = cc
 name_opening t at e = absurd (cc)
+
+-- forms and the grammar
+
+case_to : (r : Result) (w : List Symbol) → Case r w → SpellsResult r w × (is_case r ≡ true)
+case_to r w (left, u, v, open_mark, (word, u₁, v₁, if_word, (c, u₂, v₂, condition, (a, u₃, v₃, spelled, (k, close, same), cut₃), cut₂), cut₁), cut) =
+    subst (λ x. SpellsResult x w × (is_case x ≡ true)) same
+    ((u, v, (left, open_mark), (u₁, v₁, (word, if_word), (u₂, v₂, condition, (u₃, v₃, spelled, (k, close), cut₃), cut₂), cut₁), cut), refl)
+
+of_case : (r : Result) (w : List Symbol) → is_case r ≡ true → SpellsResult r w → Case r w
+of_case (when c a) w is (u, v, (left, open_mark), (u₁, v₁, (word, if_word), (u₂, v₂, condition, (u₃, v₃, spelled, (k, close), cut₃), cut₂), cut₁), cut) =
+    (left, u, v, open_mark, (word, u₁, v₁, if_word, (c, u₂, v₂, condition, (a, u₃, v₃, spelled, (k, close, refl), cut₃), cut₂), cut₁), cut)
+of_case r w is spelled = absurd (cc)
+
+to_conditional : (at : Span) (r : Result) (u v u₁ v₁ w : List Symbol) → Meant (meanings.mark marks.Open) at u → Meant opening conditional u₁ → Conditional r v₁ → v ≡ u₁ ++ v₁ → w ≡ u ++ v
+    → SpellsResult r w
+to_conditional at r u v u₁ v₁ w left (s, is, one) (c, u₂, v₂, condition, (a, u₃, v₃, first, inl (k, close, same), cut₃), cut₂) cut₁ cut =
+    let (p, e) = opening_if s is in
+    subst (λ x. SpellsResult x w) same (u, v, (at, left), (u₁, v₁, (p, (s, e, one)), (u₂, v₂, condition, (u₃, v₃, first, (k, close), cut₃), cut₂), cut₁), cut)
+to_conditional at r u v u₁ v₁ w left (s, is, one) (c, u₂, v₂, condition, (a, u₃, v₃, first, inr (b, u₄, v₄, second, (k, close, same), cut₄), cut₃), cut₂) cut₁ cut =
+    let (p, e) = opening_if s is in
+    subst (λ x. SpellsResult x w) same
+    (u, v, (at, left), (u₁, v₁, (p, (s, e, one)), (u₂, v₂, condition, (u₃, v₃, first, (u₄, v₄, second, (k, close), cut₄), cut₃), cut₂), cut₁), cut)
+
+to_switch : (at : Span) (r : Result) (u v u₁ v₁ w : List Symbol) → Meant (meanings.mark marks.Open) at u → Meant opening switched u₁ → Switched r v₁ → v ≡ u₁ ++ v₁ → w ≡ u ++ v
+    → SpellsResult r w
+to_switch at r u v u₁ v₁ w left (s, is, one) (first, u₂, v₂, case, (all, u₃, v₃, steps, (k, close, same), cut₃), cut₂) cut₁ cut =
+    let (p, e) = opening_switch s is in
+    let (rs, whole, many, cases) = items_of_steps [] first (first ∷ []) all u₃ refl steps in
+    let (spelled, is_first) = case_to first u₂ case in
+    let inside : v₁ ≡ (u₂ ++ u₃) ++ v₃ = cut₂ ∙ ap (λ l. u₂ ++ l) cut₃ ∙ sym (append_assoc u₂ u₃ v₃) in
+    let here : SpellsResult (switch (results (first ∷ rs))) w = (
+      (is_first, cases),
+      (u, v, (at, left), (u₁, v₁, (p, (s, e, one)), (u₂ ++ u₃, v₃, (u₂, u₃, spelled, results_of_many rs u₃ many, refl), (k, close), inside), cut₁), cut),
+    ) in
+    subst (λ x. SpellsResult x w) (ap (λ l. switch (results l)) (sym whole) ∙ same) here
+
+to_with : (at : Span) (r : Result) (u v u₁ v₁ w : List Symbol) → Meant (meanings.mark marks.Open) at u → Meant opening with_block u₁ → Bound r v₁ → v ≡ u₁ ++ v₁ → w ≡ u ++ v
+    → SpellsResult r w
+to_with at r u v u₁ v₁ w left (s, is, one) (ds, u₂, v₂, declarations, (a, u₃, v₃, spelled, (k, close, same), cut₃), cut₂) cut₁ cut =
+    let (p, e) = opening_with s is in
+    subst (λ x. SpellsResult x w) same (u, v, (at, left), (u₁, v₁, (p, (s, e, one)), (u₂, v₂, declarations, (u₃, v₃, spelled, (k, close), cut₃), cut₂), cut₁), cut)
+
+to_result : (r : Result) (w : List Symbol) → Form r w → SpellsResult r w
+to_result r w (captured at, u, v, meant, (same, empty), cut) =
+    subst (λ x. SpellsResult x w) (sym same) (to_leaf (capture at) w (captured at, u, v, meant, (refl, empty), cut))
+to_result r w (braced at, u, v, meant, (e, inside, same), cut) =
+    subst (λ x. SpellsResult x w) same (to_leaf (brace at e) w (braced at, u, v, meant, (e, inside, refl), cut))
+to_result r w (opened at, u, v, (t, is, one), (conditional, u₁, v₁, word, rest, cut₁), cut) = to_conditional at r u v u₁ v₁ w (t, start_opened t at is, one) word rest cut₁ cut
+to_result r w (opened at, u, v, (t, is, one), (switched, u₁, v₁, word, rest, cut₁), cut) = to_switch at r u v u₁ v₁ w (t, start_opened t at is, one) word rest cut₁ cut
+to_result r w (opened at, u, v, (t, is, one), (with_block, u₁, v₁, word, rest, cut₁), cut) = to_with at r u v u₁ v₁ w (t, start_opened t at is, one) word rest cut₁ cut
+to_result r w (opened at, u, v, meant, (named name, u₁, v₁, (s, is, one), (l, spelled, same), cut₁), cut) =
+    subst (λ x. SpellsResult x w) same (to_leaf l w (opened at, u, v, meant, (name, u₁, v₁, (s, opening_name s name is, one), spelled, cut₁), cut))
+
+of_leaf_form : (l : Leaf) (w : List Symbol) → leaf_proofs.Form l w → Form (leaf l) w
+of_leaf_form l w (captured at, u, v, meant, (same, empty), cut) = (captured at, u, v, meant, (ap leaf same, empty), cut)
+of_leaf_form l w (braced at, u, v, meant, (e, inside, same), cut) = (braced at, u, v, meant, (e, inside, ap leaf same), cut)
+of_leaf_form l w (opened at, u, v, meant, (name, u₁, v₁, (s, is, one), spelled, cut₁), cut) =
+    (opened at, u, v, meant, (named name, u₁, v₁, (s, name_opening s name is, one), (l, spelled, refl), cut₁), cut)
+
+of_result : (r : Result) (w : List Symbol) → SpellsResult r w → Form r w
+of_result (leaf l) w spelled = of_leaf_form l w (of_leaf l w spelled)
+of_result (when c a) w (u, v, (at, (t, is, one)), (u₁, v₁, (p, (s, is₁, one₁)), (u₂, v₂, condition, (u₃, v₃, first, (k, close), cut₃), cut₂), cut₁), cut) =
+    (opened at, u, v, (t, opened_start t at is, one), (conditional, u₁, v₁, (s, if_opening s p is₁, one₁), (c, u₂, v₂, condition, (a, u₃, v₃, first, inl (k, close, refl), cut₃), cut₂), cut₁), cut)
+of_result (choose c a b) w (u, v, (at, (t, is, one)), (u₁, v₁, (p, (s, is₁, one₁)), (u₂, v₂, condition, (u₃, v₃, first, (u₄, v₄, second, (k, close), cut₄), cut₃), cut₂), cut₁), cut) = (
+  opened at,
+  u,
+  v,
+  (t, opened_start t at is, one),
+  (conditional, u₁, v₁, (s, if_opening s p is₁, one₁), (c, u₂, v₂, condition, (a, u₃, v₃, first, inr (b, u₄, v₄, second, (k, close, refl), cut₄), cut₃), cut₂), cut₁),
+  cut,
+)
+of_result (switch none) w (cases, spelled) = absurd cases
+of_result (switch (more first others)) w ((is_first, cases), (u, v, (at, (t, is, one)), (u₁, v₁, (p, (s, is₁, one₁)), (u₂, v₂, (u₃, v₃, spelled, rest, cut₃), (k, close), cut₂), cut₁), cut)) =
+    let (qs, same, many) = many_of_results others v₃ rest in
+    let steps : Steps Step (first ∷ []) (first ∷ qs) v₃ = steps_of_items [] first qs v₃ many (subst (AreCases first) (sym same) cases) in
+    let inside : v₁ ≡ u₃ ++ (v₃ ++ v₂) = cut₂ ∙ ap (λ l. l ++ v₂) cut₃ ∙ append_assoc u₃ v₃ v₂ in (
+      opened at,
+      u,
+      v,
+      (t, opened_start t at is, one),
+      (
+        switched,
+        u₁,
+        v₁,
+        (s, switch_opening s p is₁, one₁),
+        (first, u₃, v₃ ++ v₂, of_case first u₃ is_first spelled, (first ∷ qs, v₃, v₂, steps, (k, close, ap (λ l. switch (more first l)) same), refl), inside),
+        cut₁,
+      ),
+      cut,
+    )
+of_result (bound ds a) w (u, v, (at, (t, is, one)), (u₁, v₁, (p, (s, is₁, one₁)), (u₂, v₂, declarations, (u₃, v₃, spelled, (k, close), cut₃), cut₂), cut₁), cut) =
+    (opened at, u, v, (t, opened_start t at is, one), (with_block, u₁, v₁, (s, with_opening s p is₁, one₁), (ds, u₂, v₂, declarations, (a, u₃, v₃, spelled, (k, close, refl), cut₃), cut₂), cut₁), cut)
+
+-- at every input
+
+some_result : Begins SpellsResult []
+some_result = record { value = leaf some_leaf.value; after = some_leaf.after; spelled = some_leaf.spelled }
+
+AreExact : Inner → List Symbol → Type 0
+AreExact inner input = IsExact SpellsResult Never input (inner input)
+
+results_exact : (n : ℕ) (input : List Symbol) → length input < n → IsExact SpellsResult Never input (results_at n input)
+unfolding AreExact
+results_exact = by_length results_at AreExact deeper
+  where
+    deeper : (n : ℕ) (input : List Symbol) → ((rest : List Symbol) → length rest < length input → IsExact SpellsResult Never rest (results_at n rest))
+        → IsExact SpellsResult Never input (results_at (suc n) input)
+    deeper n input good =
+        let inner : ReadsBelow (length input) SpellsResult Never (results_at n) = record { some = some_result; exact = λ rest below. good rest below } in
+        parts.in_words Form SpellsResult Never input (result_at (results_at n) input) to_result of_result
+        (token_then start Syntax some_start AfterStart Never (λ first. (after_start_below (length input) (results_at n) inner first).some) input
+        (λ first. after_start (results_at n) first.0 first.1)
+        (λ first rest shorter. (after_start_below (length input) (results_at n) inner first).exact rest shorter))
+
+pub result_reads : Reads SpellsResult Never whole_result_at
+result_reads = record { some = some_result; exact = λ input. results_exact (length input + 1) input (omega arith) }

@@ -1,5 +1,5 @@
 -- The loop over the items of a `switch`: whether the last is a case, and what a step reads.
-use Rattle.std.proofs.Common.{◌≡◌, Bool, true, false, ◌&&◌, if◌then◌else◌, List, [], ◌∷◌, ◌++◌, Option, Some, None, Ok, refl, ap, ◌∙◌}
+use Rattle.std.proofs.Common.{◌≡◌, Bool, true, false, ◌&&◌, if◌then◌else◌, List, [], ◌∷◌, ◌++◌, Some, None, refl, ap, ◌∙◌}
 use Rattle.grammar.specs.Reading.{first_is, and_item}
 use Rattle.pd_text.specs.declared.symbol.Symbol.{Symbol}
 use Rattle.pd_forms.specs.SymbolReaders.{Read}

@@ -1,18 +1,17 @@
 -- Readers of results on lists of symbols. They stand between code and grammar.
 use Rattle.std.specs.Prelude.{ℕ, zero, suc, ◌+◌, Bool, true, false, ◌&&◌, List, [], ◌∷◌, length, Option, Some, None, Ok, Err, if◌then◌else◌}
-use Rattle.grammar.specs.Reading.{Answer, ◌>>=◌, meant_at, first_is, and_item, steps_at}
+use Rattle.grammar.specs.Reading.{◌>>=◌, meant_at, first_is, and_item, steps_at}
 use Rattle.pm_ops.specs.declared.fault.PatternKind.TheVariants.{Syntax}
 use Rattle.pm_places.specs.declared.span.Span.{Span}
 use Rattle.pd_text.specs.declared.symbol.Symbol.{Symbol}
 use Rattle.pd_text.specs.declared.symbol.Symbol.TheVariants as symbols
 use Rattle.pd_text.specs.declared.symbol.Mark.TheVariants as marks
 use Rattle.pd_text.specs.declared.symbol.Word.TheVariants as words
-use Rattle.pd_text.specs.Meanings as meanings
 use Rattle.cond_subset.specs.Trees.{Expr}
 use Rattle.cond_subset.specs.Declarations.{Decl}
 use Rattle.pd_forms.specs.SymbolReaders.{Read, mark_at, word_at}
 use Rattle.pd_forms.specs.PartReaders.{condition_at, declarations_at, braced_at}
-use Rattle.pd_forms.specs.Results.{Leaf, capture, brace, Result, leaf, when, choose, switch, bound, results}
+use Rattle.pd_forms.specs.Results.{capture, brace, Result, leaf, when, choose, switch, bound, results}
 use Rattle.pd_forms.specs.LeafReaders.{Start, captured, braced, opened, start, begins_result, leaves_at, named_at}
 
 -- readers of results
@@ -126,3 +125,7 @@ result_at inner input = meant_at start Syntax input >>= λ first. after_start in
 abbrev pub results_at : ℕ → Inner
 results_at zero input = Err (Syntax, input)
 results_at (suc n) input = result_at (results_at n) input
+
+-- a whole result
+abbrev pub whole_result_at : Inner
+whole_result_at input = results_at (length input + 1) input

@@ -16,4 +16,5 @@ mod tree;
 pub use depth::check_depth;
 pub use leaf::read_leaf;
 pub use pattern::read_pattern;
+pub use result::read_result;
 pub use tree::{HeadText, LeafText, PatternText, ResultText};

@@ -7,6 +7,8 @@ ghost use Rattle.grammar.specs.Gives.{Gives, GivesInMemory};
 ghost use Rattle.cond_subset.specs.Trees.{expr_of};
 ghost use Rattle.cond_subset.specs.Declarations.{decl_of};
 ghost use Rattle.pd_forms.specs.Results.{result_of};
+ghost use Rattle.grammar.specs.Exact.{IsExact};
+ghost use Rattle.pd_forms.specs.ResultGrammar.{SpellsResult};
 ghost use Rattle.pd_forms.specs.ResultReaders as readers;
 
 use crate::c_parts::{read_braced, read_condition, read_declarations};
@@ -75,7 +77,7 @@ fn read_after_first(
     ensures shorter { IfOk result (λ x. length x.1.now < length symbols.now) }
 {
     if begins_result(symbols) {
-        let (second, rest) = read_result(alloc, room, symbols)?;
+        let (second, rest) = read_within(alloc, room, symbols)?;
         close_if_else(alloc, condition, then, second, rest)
     } else {
         close_if(alloc, condition, then, symbols)
@@ -94,7 +96,7 @@ fn read_conditional(
     ensures shorter { IfOk result (λ x. length x.1.now < length symbols.now) }
 {
     let (condition, rest) = read_condition(alloc, symbols)?;
-    let (then, rest) = read_result(alloc, room, rest)?;
+    let (then, rest) = read_within(alloc, room, rest)?;
     read_after_first(alloc, room, condition, then, rest)
 }
 
@@ -112,7 +114,7 @@ fn read_case(
     let (_, rest) = read_mark(Mark::Open, symbols)?;
     let (_, rest) = read_word(Word::If, rest)?;
     let (condition, rest) = read_condition(alloc, rest)?;
-    let (then, rest) = read_result(alloc, room, rest)?;
+    let (then, rest) = read_within(alloc, room, rest)?;
     close_if(alloc, condition, then, rest)
 }
 
@@ -133,7 +135,7 @@ fn read_items(
     let mut rest = symbols;
     let mut after_case = true;
     while after_case && begins_result(rest) {
-        let (item, after) = read_result(alloc, room, rest)?;
+        let (item, after) = read_within(alloc, room, rest)?;
         after_case = is_case(&item);
         items.push(item)?;
         rest = after;
@@ -187,7 +189,7 @@ fn read_with(
     ensures shorter { IfOk result (λ x. length x.1.now < length symbols.now) }
 {
     let (declarations, rest) = read_declarations(alloc, symbols)?;
-    let (inner, rest) = read_result(alloc, room, rest)?;
+    let (inner, rest) = read_within(alloc, room, rest)?;
     close_with(alloc, declarations, inner, rest)
 }
 
@@ -254,7 +256,7 @@ fn read_any(
 
 /// A result.
 #[cycle(result)]
-pub(crate) fn read_result(
+pub(crate) fn read_within(
     alloc: Global,
     room: usize,
     symbols: &[Symbol],
@@ -264,4 +266,17 @@ pub(crate) fn read_result(
     ensures shorter { IfOk result (λ x. length x.1.now < length symbols.now) }
 {
     read_any(alloc, room - 1, symbols)
+}
+
+/// The result that the symbols begin with, and what is after it.
+pub fn read_result(
+    alloc: Global,
+    symbols: &[Symbol],
+) -> Result<(ResultText, &[Symbol]), SymbolStop<'_>>
+    ensures reads { GivesInMemory (λ x. (result_of x.0, x.1.now)) result (readers.whole_result_at symbols.now) }
+    // What is read is spelled so, as far as a result goes, and a fault is the first. It ends by itself.
+    ensures exact { IsExact SpellsResult (λ t. ⊥) symbols.now (readers.whole_result_at symbols.now) }
+    ensures shorter { IfOk result (λ x. length x.1.now < length symbols.now) }
+{
+    read_within(alloc, symbols.len() + 1, symbols)
 }

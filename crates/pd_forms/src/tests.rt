@@ -1,6 +1,6 @@
 //! Patterns and results over text, and what is too deep or too long.
 
-use crate::{check_depth, read_leaf, read_pattern};
+use crate::{check_depth, read_leaf, read_pattern, read_result};
 use grammar::Stop;
 use pd_lexer::lex;
 use pd_text::{Symbol, SymbolFault, meanings};
@@ -59,6 +59,16 @@ fn leaf(alloc: Global, source: &[u8]) -> Result<End, PatternFault> {
     }
 }
 
+fn result(alloc: Global, source: &[u8]) -> Result<End, PatternFault> {
+    let tokens = lex(alloc, source)?;
+    let symbols = meanings(alloc, &tokens, source)?;
+    match read_result(alloc, &symbols) {
+        Ok((_, rest)) => Ok(End::Read(place(source, rest))),
+        Err(Stop::Fault(fault)) => Ok(end_of(source, fault)),
+        Err(Stop::Memory) => Ok(End::Other),
+    }
+}
+
 fn depth(alloc: Global, source: &[u8]) -> Result<End, PatternFault> {
     let tokens = lex(alloc, source)?;
     let symbols = meanings(alloc, &tokens, source)?;
@@ -109,6 +119,33 @@ fn results_without_conditions(rt: HostRuntime) -> Result<(), Fail> {
         ("{ 1", End::CSyntax(3)),
     ] {
         assert_eq!(rt; leaf(rt.alloc(), text.as_bytes())?, end);
+    }
+    Ok(())
+}
+
+/// A `switch` begins with a case, and ends after the first item that is none. The `(` of a condition and the `{` of a
+/// `with` are outside its C part, what closes them is within.
+#[test]
+fn results(rt: HostRuntime) -> Result<(), Fail> {
+    for (text, end) in [
+        ("(if (1) (if (2) @0) { 3; }) x", End::Read(28)),
+        ("(switch (if (1) @0) (if (2) @1)) x", End::Read(33)),
+        ("(switch (if (1) @0) (if (2) @1 @2)) x", End::Read(36)),
+        ("(with { int n = 1; } (plus! @0 @1)) x", End::Read(36)),
+        ("(switch (if (1) @0 @1))", End::Syntax(19)),
+        ("(switch @0)", End::Syntax(8)),
+        ("(switch (if (1) @0) @1 @2)", End::Syntax(23)),
+        ("(switch (if (1) @0) (if (2) @1 @2) @3)", End::Syntax(35)),
+        ("(if @0)", End::Syntax(4)),
+        ("(if (1) @0 @1 @2)", End::Syntax(14)),
+        ("(if (1))", End::Syntax(7)),
+        ("(with @0)", End::Syntax(6)),
+        ("(if () @0)", End::CSyntax(5)),
+        ("(if (1 2) @0)", End::CSyntax(7)),
+        ("(with { int n = 1 } @0)", End::CSyntax(18)),
+        ("(with { @0 } @0)", End::CSyntax(8)),
+    ] {
+        assert_eq!(rt; result(rt.alloc(), text.as_bytes())?, end);
     }
     Ok(())
 }

@@ -1,12 +1,12 @@
 -- That the recursion over results ends, and what its loop keeps.
-use Rattle.std.proofs.Common.{◌≡◌, ◌+◌, ◌*◌, ◌<◌, ◌≤◌, [], length, map, Ok}
+use Rattle.std.proofs.Common.{◌≡◌, ◌+◌, ◌*◌, ◌≤◌, length, map}
 use Rattle.grammar.proofs.Loops.{StillRuns}
 use Rattle.pd_forms.specs.Results.{result_of}
 use Rattle.pd_forms.specs.ResultReaders.{results_at, switch_step, items_at, ends_with_case}
 use Rattle.pd_forms.proofs.result.+result.Given as goal
 
-abbrev pub decreases-read_result : goal.decreases-read_result
-decreases-read_result l = 6 * l.room
+abbrev pub decreases-read_within : goal.decreases-read_within
+decreases-read_within l = 6 * l.room
 
 abbrev pub decreases-read_after_first : goal.decreases-read_after_first
 decreases-read_after_first l = 6 * l.room + 1
