@@ -6,13 +6,13 @@ use Rattle.grammar.specs.Gives.{GivesInMemory}
 use Rattle.grammar.proofs.ItemLoops.{goes_on}
 use Rattle.pd_forms.specs.Results.{leaf_of}
 use Rattle.pd_forms.specs.LeafReaders.{begins_result, leaves_at}
-use Rattle.pd_forms.proofs.LeafDepth.{one_deeper}
+use Rattle.pd_forms.proofs.Depths.{one_deeper}
 use Rattle.pd_forms.proofs.leaf.+leaf.Goals as goal
 
 pub read_within-returns-clause-reads : goal.read_within-returns-clause-reads
 read_within-returns-clause-reads t c =
     subst (λ answer. GivesInMemory (λ x. (leaf_of x.0, x.1.now)) c.read_any.result answer)
-    (sym (one_deeper c.args.room c.args.symbols.now (omega (arith, c.requires.roomy)))) c.read_any.ensures.reads
+    (sym (one_deeper (λ k. leaves_at k c.args.symbols.now) c.args.room (omega (arith, c.requires.roomy)))) c.read_any.ensures.reads
 
 pub read_leaves-loop-alloc-preserved : goal.read_leaves-loop-alloc-preserved
 read_leaves-loop-alloc-preserved t c =

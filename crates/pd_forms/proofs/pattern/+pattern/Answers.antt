@@ -6,13 +6,13 @@ use Rattle.grammar.specs.Gives.{GivesInMemory}
 use Rattle.grammar.proofs.ItemLoops.{goes_on}
 use Rattle.pd_forms.specs.Trees.{pattern_of}
 use Rattle.pd_forms.specs.PatternReaders.{begins_pattern, patterns_at}
-use Rattle.pd_forms.proofs.PatternDepth.{one_deeper}
+use Rattle.pd_forms.proofs.Depths.{one_deeper}
 use Rattle.pd_forms.proofs.pattern.+pattern.Goals as goal
 
 pub read_within-returns-clause-reads : goal.read_within-returns-clause-reads
 read_within-returns-clause-reads t c =
     subst (λ answer. GivesInMemory (λ x. (pattern_of x.0, x.1.now)) c.read_any.result answer)
-    (sym (one_deeper c.args.room c.args.symbols.now (omega (arith, c.requires.roomy)))) c.read_any.ensures.reads
+    (sym (one_deeper (λ k. patterns_at k c.args.symbols.now) c.args.room (omega (arith, c.requires.roomy)))) c.read_any.ensures.reads
 
 pub read_operands-loop-alloc-preserved : goal.read_operands-loop-alloc-preserved
 read_operands-loop-alloc-preserved t c =

@@ -6,14 +6,14 @@ use Rattle.grammar.specs.Gives.{GivesInMemory}
 use Rattle.grammar.proofs.Loops.{runs_on}
 use Rattle.pd_forms.specs.Results.{result_of}
 use Rattle.pd_forms.specs.ResultReaders.{ends_with_case, switch_step, items_at, results_at}
-use Rattle.pd_forms.proofs.ResultDepth.{one_deeper}
+use Rattle.pd_forms.proofs.Depths.{one_deeper}
 use Rattle.pd_forms.proofs.SwitchItems.{ends_with_last, item_step}
 use Rattle.pd_forms.proofs.result.+result.Goals as goal
 
 pub read_within-returns-clause-reads : goal.read_within-returns-clause-reads
 read_within-returns-clause-reads t c =
     subst (λ answer. GivesInMemory (λ x. (result_of x.0, x.1.now)) c.read_any.result answer)
-    (sym (one_deeper c.args.room c.args.symbols.now (omega (arith, c.requires.roomy)))) c.read_any.ensures.reads
+    (sym (one_deeper (λ k. results_at k c.args.symbols.now) c.args.room (omega (arith, c.requires.roomy)))) c.read_any.ensures.reads
 
 pub read_items-loop-after_case-preserved : goal.read_items-loop-after_case-preserved
 read_items-loop-after_case-preserved t c =
