@@ -8,3 +8,4 @@ mod PartsExact
 mod LeavesExact
 mod SwitchItems
 mod ResultsExact
+mod TailsExact

@@ -9,3 +9,5 @@ pub mod PartReaders
 pub mod LeafReaders
 pub mod ResultGrammar
 pub mod ResultReaders
+pub mod Tails
+pub mod TailReaders

@@ -1,4 +1,5 @@
-//! C parts between their parentheses or braces. From what opens one to what closes it each fault is one of C parts.
+//! C parts between their parentheses or braces. From what opens one to what closes it each fault
+//! is one of C parts.
 
 ghost use Rattle.std.specs.Prelude.{◌≡◌, ◌<◌, ◌≤◌, length, map, IfOk};
 ghost use Rattle.grammar.specs.Gives.{GivesInMemory};

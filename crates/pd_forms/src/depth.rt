@@ -1,4 +1,5 @@
-//! The stage of depth: how many parentheses and braces are open at once, and how long a form or a condition is.
+//! The stage of depth: how many parentheses and braces are open at once, and how long a form or a
+//! condition is.
 
 ghost use Rattle.std.specs.Prelude.{◌≡◌, ◌+◌, ◌<◌, ◌≤◌, take, drop, length};
 ghost use Rattle.pd_forms.specs.Depth as depth;
@@ -120,10 +121,11 @@ fn fault_at(symbols: &[Symbol], at: usize, level: usize) -> Option<PatternKind>
     }
 }
 
-/// Whether no place of a file is too deep, and no form or condition too long; else the first place that is.
+/// Whether no place of a file is too deep, and no form or condition too long; else the first place
+/// that is.
 ///
-/// `TooDeep` stands at the 65th parenthesis or brace that is open at once, `TooManyTokens` at the `(` of a `simplify`, a
-/// `match` or a condition of more than 1,024 tokens.
+/// `TooDeep` stands at the 65th parenthesis or brace that is open at once, `TooManyTokens` at the
+/// `(` of a `simplify`, a `match` or a condition of more than 1,024 tokens.
 pub fn check_depth(symbols: &[Symbol]) -> Result<(), SymbolFault<'_>>
     ensures { depth.IsChecked symbols.now result }
 {

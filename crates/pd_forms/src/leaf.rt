@@ -18,7 +18,8 @@ use pm_items::Items;
 use pm_places::Span;
 use std::alloc::Global;
 
-/// The place of the symbol, if it may be the name of an operation: an identifier but `if`, `switch` and `with`.
+/// The place of the symbol, if it may be the name of an operation: an identifier but `if`, `switch`
+/// and `with`.
 fn leaf_name(symbol: Symbol) -> Option<Span>
     ensures { result ≡ readers.leaf_name symbol }
 {

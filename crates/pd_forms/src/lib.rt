@@ -8,6 +8,7 @@ mod depth;
 mod leaf;
 mod pattern;
 mod result;
+mod tail;
 #[cfg(test)]
 mod tests;
 mod tokens;
@@ -17,4 +18,5 @@ pub use depth::check_depth;
 pub use leaf::read_leaf;
 pub use pattern::read_pattern;
 pub use result::read_result;
-pub use tree::{HeadText, LeafText, PatternText, ResultText};
+pub use tail::read_tail;
+pub use tree::{HeadText, LeafText, PatternText, ResultText, TailText};

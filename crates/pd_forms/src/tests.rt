@@ -1,6 +1,6 @@
 //! Patterns and results over text, and what is too deep or too long.
 
-use crate::{check_depth, read_leaf, read_pattern, read_result};
+use crate::{check_depth, read_leaf, read_pattern, read_result, read_tail};
 use grammar::Stop;
 use pd_lexer::lex;
 use pd_text::{Symbol, SymbolFault, meanings};
@@ -63,6 +63,16 @@ fn result(alloc: Global, source: &[u8]) -> Result<End, PatternFault> {
     let tokens = lex(alloc, source)?;
     let symbols = meanings(alloc, &tokens, source)?;
     match read_result(alloc, &symbols) {
+        Ok((_, rest)) => Ok(End::Read(place(source, rest))),
+        Err(Stop::Fault(fault)) => Ok(end_of(source, fault)),
+        Err(Stop::Memory) => Ok(End::Other),
+    }
+}
+
+fn tail(alloc: Global, source: &[u8]) -> Result<End, PatternFault> {
+    let tokens = lex(alloc, source)?;
+    let symbols = meanings(alloc, &tokens, source)?;
+    match read_tail(alloc, &symbols) {
         Ok((_, rest)) => Ok(End::Read(place(source, rest))),
         Err(Stop::Fault(fault)) => Ok(end_of(source, fault)),
         Err(Stop::Memory) => Ok(End::Other),
@@ -146,6 +156,22 @@ fn results(rt: HostRuntime) -> Result<(), Fail> {
         ("(with { @0 } @0)", End::CSyntax(8)),
     ] {
         assert_eq!(rt; result(rt.alloc(), text.as_bytes())?, end);
+    }
+    Ok(())
+}
+
+/// A tail may be empty, and goes on at a `(` alone.
+#[test]
+fn tails(rt: HostRuntime) -> Result<(), Fail> {
+    for (text, end) in [
+        (")", End::Read(0)),
+        ("(if (1) (with { } )) x", End::Read(21)),
+        ("(if (1) @0)", End::Syntax(8)),
+        ("(if (1)) (if (2))", End::Read(9)),
+        ("(switch (if (1)))", End::Syntax(1)),
+        ("(with { 1; })", End::CSyntax(8)),
+    ] {
+        assert_eq!(rt; tail(rt.alloc(), text.as_bytes())?, end);
     }
     Ok(())
 }

@@ -1,5 +1,5 @@
-//! Readers of one symbol, and of symbols that may be left out. A fault is at the symbol, or at the end where there is
-//! none.
+//! Readers of one symbol, and of symbols that may be left out. A fault is at the symbol, or at the
+//! end where there is none.
 
 ghost use Rattle.std.specs.Prelude.{◌≡◌, ◌<◌, ◌≤◌, length, IfOk};
 ghost use Rattle.grammar.specs.Gives.{Gives};

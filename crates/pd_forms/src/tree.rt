@@ -51,3 +51,14 @@ pub enum ResultText {
     /// `(with { declarations } a)`
     With(Items<DeclText>, Boxed<ResultText>),
 }
+
+/// The tail of a case of a predicate.
+#[derive(Drop)]
+pub enum TailText {
+    /// No symbol.
+    Empty,
+    /// `(if (c) tail)`
+    If(ExprText, Boxed<TailText>),
+    /// `(with { declarations } tail)`
+    With(Items<DeclText>, Boxed<TailText>),
+}
