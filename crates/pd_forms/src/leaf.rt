@@ -138,7 +138,8 @@ fn read_within(
 /// The result without conditions that the symbols begin with, and what is after it.
 pub fn read_leaf(alloc: Global, symbols: &[Symbol]) -> Result<(LeafText, &[Symbol]), SymbolStop<'_>>
     ensures reads { GivesInMemory (λ x. (leaf_of x.0, x.1.now)) result (readers.whole_leaf_at symbols.now) }
-    // What is read is spelled so, as far as such a result goes, and a fault is the first. It ends by itself.
+    // What is read is spelled so, as far as such a result goes, and a fault is the first. It ends
+    // by itself.
     ensures exact { IsExact SpellsLeaf (λ t. ⊥) symbols.now (readers.whole_leaf_at symbols.now) }
     ensures shorter { IfOk result (λ x. length x.1.now < length symbols.now) }
 {

@@ -1,6 +1,7 @@
 //! Pattern files as trees: the stage of depth and the stage of syntax.
 //!
-//! Both go over the symbols of a whole file. Trees keep the place of each name, flag and capture in the source.
+//! Both go over the symbols of a whole file. Trees keep the place of each name, flag and capture in
+//! the source.
 #![tactic(auto)]
 
 mod c_parts;

@@ -133,8 +133,8 @@ fn results_without_conditions(rt: HostRuntime) -> Result<(), Fail> {
     Ok(())
 }
 
-/// A `switch` begins with a case, and ends after the first item that is none. The `(` of a condition and the `{` of a
-/// `with` are outside its C part, what closes them is within.
+/// A `switch` begins with a case, and ends after the first item that is none. The `(` of a condition
+/// and the `{` of a `with` are outside its C part, what closes them is within.
 #[test]
 fn results(rt: HostRuntime) -> Result<(), Fail> {
     for (text, end) in [

@@ -1,4 +1,5 @@
-//! Trees of pattern files as they are written: each name, flag and capture keeps its place in the source.
+//! Trees of pattern files as they are written: each name, flag and capture keeps its place in the
+//! source.
 
 use cond_subset::{DeclText, ExprText};
 use pd_text::Capture;
