@@ -1,0 +1,6 @@
+pub mod Branches
+pub mod Phis
+pub mod Reached
+pub mod Removal
+pub mod Search
+pub mod Tidying
