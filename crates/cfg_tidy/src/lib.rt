@@ -13,3 +13,6 @@ mod tidying;
 
 pub use change::{Change, Tidied};
 pub use tidying::tidy;
+
+#[cfg(test)]
+mod tests;
