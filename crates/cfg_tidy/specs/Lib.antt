@@ -2,5 +2,6 @@ pub mod Branches
 pub mod Phis
 pub mod Reached
 pub mod Removal
+pub mod SameRuns
 pub mod Search
 pub mod Tidying

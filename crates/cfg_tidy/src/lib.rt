@@ -6,6 +6,7 @@
 mod branches;
 mod change;
 mod dropping;
+pub mod laws;
 mod phis;
 mod reaching;
 mod replacing;
