@@ -1,0 +1,6 @@
+pub mod Arguments
+pub mod CountLemmas
+pub mod IntegerLemmas
+pub mod Lookups
+pub mod ReadingLemmas
+pub mod WordLemmas

@@ -1,0 +1,25 @@
+//! The values of C text.
+#![tactic(auto)]
+
+mod absent;
+mod calls;
+mod constants;
+mod declaration;
+mod environment;
+mod evaluation;
+mod flagged;
+mod integers;
+mod operators;
+mod pair;
+mod reading;
+#[cfg(test)]
+mod tests;
+#[cfg(test)]
+mod texts;
+mod value;
+mod words;
+
+pub use declaration::declare;
+pub use environment::CEnv;
+pub use evaluation::eval;
+pub use value::CValue;
