@@ -1,5 +1,5 @@
 -- A branch whose way is known becomes a jump: the function runs as before.
-use Rattle.std.proofs.Common.{◌≡◌, ℕ, Bool, true, false, cond, not, ◌&&◌, Option, Some, None, List, [], ◌∷◌, ◌⊎◌, map, eqb, refl, sym, ap, subst, ◌∙◌, inl, inr, ⊎_elim}
+use Rattle.std.proofs.Common.{◌≡◌, ℕ, Bool, true, false, cond, not, Option, Some, None, List, [], ◌∷◌, ◌⊎◌, map, eqb, refl, sym, ap, subst, ◌∙◌, inl, inr, ⊎_elim}
 use Rattle.std.specs.Option.{option_map, option_map_or}
 use Rattle.std.proofs.lemmas.Bool.{both_ways, eq-eqb, eqb-true, eqb-false, and_right}
 use Rattle.std.proofs.lemmas.Option.{same_Some, none-some}
@@ -12,14 +12,14 @@ use Rattle.gim_ast.specs.declared.function.Function.{Function}
 use Rattle.gim_ast.specs.declared.function.Block.{Block}
 use Rattle.gim_ast.specs.declared.function.End.{End}
 use Rattle.gim_ast.specs.declared.function.End.TheVariants.{Goto, If, Return}
-use Rattle.gim_ast.specs.Functions.{first_where, block_of, row_of, targets_of}
+use Rattle.gim_ast.specs.Functions.{block_of, row_of, targets_of}
 use Rattle.gim_ast.specs.WellFormed.{entry_has_no_phi, is_among}
-use Rattle.gim_ast.specs.Runs.{Env, name_type, start_env, holds, Lead, To, Out, lead_of, Passage, On, Stuck, pass_block, pass_stmts, after_phis, Place, Step, Further, Ended, step_of_lead, step_of_passage, step_in, step_at, start_of, entry_of}
+use Rattle.gim_ast.specs.Runs.{Env, name_type, start_env, holds, Lead, To, Out, lead_of, Passage, On, Stuck, pass_block, pass_stmts, after_phis, Place, Further, step_of_lead, step_of_passage, step_in, step_at, start_of, entry_of}
 use Rattle.gim_meaning.proofs.ListSearch.{first_of_changed}
 use Rattle.gim_meaning.proofs.Reached.{number_of_found, found_by_number}
 use Rattle.cfg_tidy.specs.Branches.{holds_of, compared, decided, known_target, without_arg, is_lost, branched_in_block, branched}
 use Rattle.cfg_tidy.specs.SameRuns.{RunAlike}
-use Rattle.cfg_tidy.proofs.RunningAlike.{StepsAlike, run_alike, entry_phis, same_stmts, same_phis, other_phis}
+use Rattle.cfg_tidy.proofs.RunningAlike.{run_alike, entry_phis, same_stmts, same_phis, other_phis}
 
 -- ---- the way that is known is taken
 

@@ -1,22 +1,22 @@
 -- A block that nothing reaches goes: the function runs as before.
-use Rattle.std.proofs.Common.{◌≡◌, ℕ, Bool, true, false, cond, not, Option, Some, None, List, [], ◌∷◌, ◌⊎◌, map, eqb, refl, sym, ap, subst, ◌∙◌, inl, inr, ⊎_elim}
+use Rattle.std.proofs.Common.{◌≡◌, ℕ, true, false, Option, Some, None, List, [], ◌∷◌, ◌⊎◌, map, eqb, refl, sym, ap, subst, ◌∙◌, inl, inr, ⊎_elim}
 use Rattle.std.specs.Prelude.{filter}
 use Rattle.std.specs.Option.{option_map, option_map_or}
-use Rattle.std.proofs.lemmas.Bool.{both_ways, eqb-true, ne_eqb}
+use Rattle.std.proofs.lemmas.Bool.{both_ways, ne_eqb}
 use Rattle.pm_wide.specs.Types.{Word}
 use Rattle.gim_ast.specs.declared.function.Function.{Function}
 use Rattle.gim_ast.specs.declared.function.Block.{Block}
-use Rattle.gim_ast.specs.Functions.{first_where, block_of, row_of, targets_of}
+use Rattle.gim_ast.specs.Functions.{block_of, row_of, targets_of}
 use Rattle.gim_ast.specs.WellFormed.{entry_has_no_phi, is_among}
-use Rattle.gim_ast.specs.Runs.{Env, name_type, start_env, Lead, To, Out, lead_of, Passage, On, Stuck, pass_block, pass_stmts, after_phis, Place, Step, Further, Ended, step_of_lead, step_of_passage, step_in, step_at, start_of, entry_of}
+use Rattle.gim_ast.specs.Runs.{Env, name_type, start_env, Lead, To, Out, lead_of, Passage, On, Stuck, pass_block, pass_stmts, after_phis, Place, Further, step_of_lead, step_of_passage, step_in, step_at, start_of, entry_of}
 use Rattle.gim_meaning.proofs.AlongRuns.{lead_is_target}
 use Rattle.gim_meaning.proofs.ListSearch.{first_of_changed}
 use Rattle.gim_meaning.proofs.Reached.{number_of_found}
 use Rattle.cfg_tidy.specs.Branches.{without_arg}
-use Rattle.cfg_tidy.specs.Reached.{IsReached, entry, jump, leads_to}
+use Rattle.cfg_tidy.specs.Reached.{IsReached, entry, jump}
 use Rattle.cfg_tidy.specs.Removal.{block_stays, without_args, dropped}
 use Rattle.cfg_tidy.specs.SameRuns.{RunAlike}
-use Rattle.cfg_tidy.proofs.RunningAlike.{StepsAlike, run_alike, others_found, entry_phis, same_stmts, other_phis}
+use Rattle.cfg_tidy.proofs.RunningAlike.{run_alike, others_found, entry_phis, same_stmts, other_phis}
 
 -- the entry is reached
 pub entry_reached : (blocks : List Block) → entry_has_no_phi blocks ≡ true → IsReached blocks (entry_of blocks)

@@ -1,8 +1,8 @@
 -- Two functions that do the same at each place where the first one comes run alike.
-use Rattle.std.proofs.Common.{◌≡◌, ℕ, zero, suc, Bool, true, false, cond, not, ◌&&◌, Option, Some, None, List, [], ◌∷◌, ◌⊎◌, map, eqb, refl, sym, ap, subst, ◌∙◌, inl, inr, ⊎_elim}
+use Rattle.std.proofs.Common.{◌≡◌, ℕ, zero, suc, Bool, true, false, cond, not, Option, Some, None, List, [], ◌∷◌, map, eqb, refl, sym, ap, subst, ◌∙◌}
 use Rattle.std.specs.Prelude.{filter}
-use Rattle.std.specs.Option.{option_map, option_map_or}
-use Rattle.std.proofs.lemmas.Bool.{both_ways, eq-eqb, eqb-true, eqb-false}
+use Rattle.std.specs.Option.{option_map_or}
+use Rattle.std.proofs.lemmas.Bool.{both_ways, eq-eqb, eqb-true}
 use Rattle.pm_wide.specs.Types.{Word}
 use Rattle.pm_wide.specs.declared.operand.Operand.{Operand}
 use Rattle.gim_ast.specs.declared.function.Function.{Function}
@@ -10,7 +10,7 @@ use Rattle.gim_ast.specs.declared.function.Block.{Block}
 use Rattle.gim_ast.specs.declared.function.Phi.{Phi}
 use Rattle.gim_ast.specs.declared.function.Stmt.{Stmt}
 use Rattle.gim_ast.specs.Functions.{first_where}
-use Rattle.gim_ast.specs.Runs.{Env, assign, assign_each, word_of_operand, zero_of, name_type, phi_word, after_phis, rhs_value, Passage, On, Stuck, pass_stmts, Place, Step, Further, Ended, step_at, outcome_of, run_from, start_of, run_of, entry_of}
+use Rattle.gim_ast.specs.Runs.{Env, assign, assign_each, word_of_operand, zero_of, name_type, phi_word, after_phis, rhs_value, Stuck, pass_stmts, Place, Step, Further, Ended, step_at, outcome_of, run_from, start_of, run_of, entry_of}
 use Rattle.gim_ast.specs.WellFormed.{is_empty, entry_has_no_phi}
 use Rattle.std.proofs.lemmas.Option.{same_Some}
 use Rattle.cfg_tidy.specs.Branches.{arg_stays, without_arg}
