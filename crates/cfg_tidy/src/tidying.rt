@@ -1,5 +1,7 @@
 //! The changes, one after another.
-ghost use Rattle.std.specs.Prelude.{IfOk};
+ghost use Rattle.std.specs.Prelude.{IfOk, IsTrue};
+ghost use Rattle.gim_ast.specs.WellFormed.{IsWellFormed};
+ghost use Rattle.cfg_tidy.specs.SameRuns.{RunAlike, take_no_phi};
 ghost use Rattle.cfg_tidy.specs.Tidying.{MakesFirst, IsTidied};
 
 use crate::branches::{branch, first_branch};
@@ -33,13 +35,8 @@ fn change(alloc: Global, function: &mut Function) -> Result<Option<Change>, OutO
     Ok(None)
 }
 
-/// Makes the changes of the control flow that are possible, each the first one, until none is: an `if` on two constants
-/// or with two equal targets becomes a jump, a block that jumps don't reach from the entry goes, and a phi whose
-/// arguments other than its own name are one operand goes, that operand put for its name.
-///
-/// The only error is want of memory. Time grows as the number of changes times the size of the function, and for each
-/// change but a branch as the square of the number of its blocks.
-pub fn tidy(alloc: Global, function: Function) -> Result<Tidied, OutOfMemory>
+/// Makes the changes that are possible, each the first one, until none is.
+fn make_changes(alloc: Global, function: Function) -> Result<Tidied, OutOfMemory>
     ensures { IfOk result (λ tidied. IsTidied function tidied.changes tidied.function) }
 {
     let mut function = function;
@@ -49,4 +46,19 @@ pub fn tidy(alloc: Global, function: Function) -> Result<Tidied, OutOfMemory>
     }
     trim(&mut function);
     Ok(Tidied { function, changes })
+}
+
+/// Makes the changes of the control flow that are possible, each the first one, until none is: an `if` on two constants
+/// or with two equal targets becomes a jump, a block that jumps don't reach from the entry goes, and a phi whose
+/// arguments other than its own name are one operand goes, that operand put for its name.
+///
+/// The only error is want of memory. Time grows as the number of changes times the size of the function, and for each
+/// change but a branch as the square of the number of its blocks.
+pub fn tidy(alloc: Global, function: Function) -> Result<Tidied, OutOfMemory>
+    ensures changes { IfOk result (λ tidied. IsTidied function tidied.changes tidied.function) }
+    // Where no phi went, each run is as before.
+    ensures runs { IfOk result (λ tidied. IsWellFormed function → IsTrue (take_no_phi tidied.changes) →
+        RunAlike function tidied.function) }
+{
+    make_changes(alloc, function)
 }

@@ -4,6 +4,7 @@ ghost use Rattle.gim_ast.specs.declared.function.Block.{Block};
 ghost use Rattle.gim_ast.specs.declared.function.Function.{Function};
 ghost use Rattle.gim_ast.specs.Functions.{block_of};
 ghost use Rattle.gim_ast.specs.WellFormed.{entry_has_no_phi};
+ghost use Rattle.gim_changes.specs.Trimming.{trimmed};
 ghost use Rattle.cfg_tidy.specs.Branches.{known_target, branched};
 ghost use Rattle.cfg_tidy.specs.Reached.{IsReached};
 ghost use Rattle.cfg_tidy.specs.Removal.{dropped};
@@ -20,4 +21,9 @@ pub fn branch_keeps_runs()
 pub fn dropping_keeps_runs()
     ensures { (f : Function) (n : ℕ) → IsTrue (entry_has_no_phi f.blocks) →
         (IsReached f.blocks n → ⊥) → RunAlike f (dropped n f) }
+{}
+
+/// The rows of `names` whose names stand nowhere go.
+pub fn trimming_keeps_runs()
+    ensures { (f : Function) → RunAlike f (trimmed f) }
 {}

@@ -1,6 +1,6 @@
 use Rattle.cfg_tidy.specs.Tidying.{Becomes}
 use Rattle.cfg_tidy.proofs.Sizes.{size_of}
-use Rattle.cfg_tidy.proofs.tidying.tidy.Given as goal
+use Rattle.cfg_tidy.proofs.tidying.make_changes.Given as goal
 
 -- the function was made by the changes so far
 abbrev pub invariant-loop-changes : goal.invariant-loop-changes
