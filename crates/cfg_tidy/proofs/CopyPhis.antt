@@ -1,5 +1,5 @@
 -- The first phi that has one operand goes, and that operand is put for it: the function stays valid and keeps its defined runs.
-use Rattle.std.proofs.Common.{◌≡◌, ℕ, zero, suc, ◌<◌, Bool, true, false, cond, ◌||◌, Option, Some, None, List, [], ◌∷◌, ◌++◌, length, map, eqb, refl, sym, ap, subst, ◌∙◌, inl, inr, ⊎_elim, arith}
+use Rattle.std.proofs.Common.{◌≡◌, ℕ, zero, suc, ◌<◌, true, false, ◌||◌, Option, Some, None, List, [], ◌∷◌, ◌++◌, length, map, eqb, refl, sym, subst, ◌∙◌, inl, ⊎_elim, arith}
 use Rattle.std.specs.Bool.{IsTrue}
 use Rattle.std.specs.List.{list_all}
 use Rattle.std.specs.Option.{option_map_or}
@@ -18,13 +18,11 @@ use Rattle.gim_ast.specs.Paths.{flow_of, Path}
 use Rattle.gim_ast.specs.Readable.{read_for, is_initial, Supports, IsReadable, IsValid}
 use Rattle.gim_ast.specs.Runs.{entry_of}
 use Rattle.gim_ast.proofs.ReadableLemmas.{support_is_readable}
-use Rattle.gim_changes.specs.Removal.{without}
 use Rattle.gim_changes.specs.Substitution.{put_in_all}
 use Rattle.gim_changes.specs.Trimming.{trimmed}
-use Rattle.gim_changes.specs.Validity.{IsAssignedAfter, OperandComesBefore, has_type_of}
+use Rattle.gim_changes.specs.Validity.{OperandComesBefore, has_type_of}
 use Rattle.gim_changes.proofs.AssignedBefore.{assigned_where_fresh, assigned_earlier}
 use Rattle.gim_changes.proofs.ChangedBlocks.{block_holds}
-use Rattle.gim_changes.proofs.ComesBefore.{readable_where_assigned}
 use Rattle.gim_changes.proofs.GoodOperands.{name_among, named_is_used}
 use Rattle.gim_changes.proofs.GrownRules.{same_type_itself}
 use Rattle.gim_changes.proofs.Members.{IsMember, all_members, all_from_members, each_member, member_left, member_splits, mapped_member, part_member}
@@ -43,10 +41,10 @@ use Rattle.gim_meaning.proofs.PhiReading.{has_argument}
 use Rattle.gim_meaning.proofs.PhisOfOneOperand.{one_operand_keeps_runs}
 use Rattle.gim_meaning.proofs.RemovalRuns.{removal_keeps_runs}
 use Rattle.gim_meaning.proofs.TrimmingRuns.{trimming_keeps_runs}
-use Rattle.cfg_tidy.specs.Phis.{all_are, first_copy, replaced}
+use Rattle.cfg_tidy.specs.Phis.{first_copy, replaced}
 use Rattle.cfg_tidy.specs.Reached.{IsReached}
 use Rattle.cfg_tidy.specs.Tidying.{AllReached}
-use Rattle.cfg_tidy.proofs.FirstCopy.{HasOne, IsCopyAt, copy_at, same_operand_is, reads_only}
+use Rattle.cfg_tidy.proofs.FirstCopy.{HasOne, copy_at, same_operand_is, reads_only}
 use Rattle.cfg_tidy.proofs.ReachedPaths.{member_is_found, goes_through, head_path}
 use Rattle.cfg_tidy.proofs.RunningAlike.{entry_phis}
 use Rattle.cfg_tidy.proofs.UnusedNames.{unused_where_put}

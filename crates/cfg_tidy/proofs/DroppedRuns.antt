@@ -88,8 +88,10 @@ module _ (f : Function) (n : ℕ) (unreached : IsReached f.blocks n → ⊥) (pl
       led b there env (To m) leads h =
           let same : record { from = b.number; to = m; env = env } ≡ next = cc in
           let number = number_of_found f place.to b there in
-          subst Good same (target_reached place.to b there good.0 m (lead_is_target env b.end m leads),
-          inl (subst (λ k. k ≡ n → ⊥) (sym number) (other_number place.to good.0)))
+          subst Good same (
+            target_reached place.to b there good.0 m (lead_is_target env b.end m leads),
+            inl (subst (λ k. k ≡ n → ⊥) (sym number) (other_number place.to good.0)),
+          )
       led b there env (Out w) leads h = cc
 
       passed : (b : Block) → block_of f place.to ≡ Some b → (passage : Passage) → step_of_passage b passage ≡ Further next → Good next

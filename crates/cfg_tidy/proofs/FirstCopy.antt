@@ -1,11 +1,11 @@
 -- The first phi of one operand: where it stands, and what its arguments are.
-use Rattle.std.proofs.Common.{◌≡◌, ℕ, Bool, true, false, cond, ◌&&◌, ◌||◌, Option, Some, None, List, [], ◌∷◌, ◌⊎◌, eqb, refl, sym, ap, ap₂, subst, ◌∙◌, inl, inr, ⊎_elim}
+use Rattle.std.proofs.Common.{◌≡◌, ℕ, Bool, true, false, cond, ◌||◌, Option, Some, None, List, [], ◌∷◌, ◌⊎◌, eqb, refl, sym, ap, ap₂, subst, ◌∙◌, inl, inr, ⊎_elim}
 use Rattle.std.specs.Bool.{IsTrue}
-use Rattle.std.specs.List.{list_all, AllByRecursion}
+use Rattle.std.specs.List.{AllByRecursion}
 use Rattle.std.specs.Option.{option_map, option_map_or}
 use Rattle.std.proofs.lemmas.Bool.{and_parts, or_cases, both_ways, eqb-true}
 use Rattle.std.proofs.lemmas.Option.{same_Some, none-some}
-use Rattle.pm_wide.specs.Types.{Ty, Word}
+use Rattle.pm_wide.specs.Types.{Ty}
 use Rattle.pm_wide.specs.declared.operand.Operand.{Operand}
 use Rattle.pm_wide.specs.declared.operand.Operand.TheVariants.{Name, Const}
 use Rattle.pm_wide.proofs.Results.{same_type_is}
@@ -13,7 +13,6 @@ use Rattle.gim_ast.specs.declared.function.Block.{Block}
 use Rattle.gim_ast.specs.declared.function.Phi.{Phi}
 use Rattle.gim_ast.specs.Functions.{is_name, same_operand}
 use Rattle.gim_changes.proofs.Members.{IsMember}
-use Rattle.gim_meaning.specs.PhiArguments.{ReadsOnly}
 use Rattle.cfg_tidy.specs.Branches.{first_some}
 use Rattle.cfg_tidy.specs.Phis.{other_operand, all_are, only_operand, copy_of, first_copy}
 

@@ -1,5 +1,5 @@
 -- A path leads to the head of each block that is reached, and on through it.
-use Rattle.std.proofs.Common.{◌≡◌, ℕ, Bool, true, false, cond, Option, Some, None, List, [], ◌∷◌, ◌++◌, map, eqb, refl, sym, ap, subst, ◌∙◌, ⊎_elim}
+use Rattle.std.proofs.Common.{◌≡◌, ℕ, true, false, cond, Option, Some, None, List, [], ◌∷◌, ◌++◌, map, eqb, refl, sym, ap, subst, ◌∙◌, ⊎_elim}
 use Rattle.std.specs.Option.{option_map_or}
 use Rattle.std.proofs.lemmas.Bool.{and_parts, both_ways, eq-eqb, ne_eqb}
 use Rattle.std.proofs.lemmas.Option.{same_Some}
@@ -8,7 +8,7 @@ use Rattle.gim_ast.specs.declared.function.Function.{Function}
 use Rattle.gim_ast.specs.declared.function.Block.{Block}
 use Rattle.gim_ast.specs.Functions.{first_where, block_of, assigned_in, targets_of}
 use Rattle.gim_ast.specs.WellFormed.{is_among}
-use Rattle.gim_ast.specs.Paths.{Stretch, stretch_of, flow_of, Path, enter, item, jump}
+use Rattle.gim_ast.specs.Paths.{stretch_of, flow_of, Path, enter, item, jump}
 use Rattle.gim_changes.proofs.Members.{IsMember, mapped_member}
 use Rattle.gim_changes.proofs.DistinctNumbers.{AreDistinct, not_later}
 use Rattle.gim_meaning.proofs.AlongRuns.{stretch_found}
@@ -62,8 +62,10 @@ module _ (f : Function) where
       let came = head_path m before from.0 from.1 in
       let to_end = goes_through m (assigned_in from.0) [] came.0 (subst (λ l. Path (flow_of f) m l came.0) (sym (append-nil (assigned_in from.0))) came.1) in
       let number = number_of_found f m from.0 from.1 in
-      let target = number_of_found f n b found in
-      (to_end.0, subst (λ k. Path (flow_of f) k (assigned_in b) to_end.0) target
-      (jump (stretch_of from.0) (stretch_of b) to_end.0 (stretch_found f from.0.number from.0 (found_by_number f m from.0 from.1))
-      (subst (λ k. is_among k (targets_of from.0.end) ≡ true) (sym target) from.2) (stretch_found f b.number b (found_by_number f n b found))
-      (subst (λ k. Path (flow_of f) k [] to_end.0) (sym number) to_end.1)))
+      let target = number_of_found f n b found in (
+        to_end.0,
+        subst (λ k. Path (flow_of f) k (assigned_in b) to_end.0) target
+            (jump (stretch_of from.0) (stretch_of b) to_end.0 (stretch_found f from.0.number from.0 (found_by_number f m from.0 from.1))
+            (subst (λ k. is_among k (targets_of from.0.end) ≡ true) (sym target) from.2) (stretch_found f b.number b (found_by_number f n b found))
+            (subst (λ k. Path (flow_of f) k [] to_end.0) (sym number) to_end.1)),
+      )

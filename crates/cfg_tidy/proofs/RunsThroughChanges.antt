@@ -1,5 +1,5 @@
 -- A list of changes that takes no phi out leaves every run as it is.
-use Rattle.std.proofs.Common.{◌≡◌, ℕ, Bool, true, false, cond, not, Option, Some, None, List, [], ◌∷◌, map, eqb, refl, sym, ap, subst, ◌∙◌, Result, Ok, Err, inl, inr, ⊎_elim}
+use Rattle.std.proofs.Common.{◌≡◌, ℕ, Bool, true, false, cond, not, Option, Some, None, List, [], ◌∷◌, map, eqb, refl, sym, ap, subst, ◌∙◌, Result, Ok, Err}
 use Rattle.std.specs.Prelude.{filter, IfOk}
 use Rattle.std.specs.Option.{option_map}
 use Rattle.std.proofs.lemmas.Bool.{and_parts, both_ways, ne_eqb}
@@ -10,7 +10,7 @@ use Rattle.gim_ast.specs.declared.function.Phi.{Phi}
 use Rattle.gim_ast.specs.declared.function.End.{End}
 use Rattle.gim_ast.specs.Functions.{block_of}
 use Rattle.gim_ast.specs.Runs.{entry_of}
-use Rattle.gim_ast.specs.WellFormed.{is_empty, entry_has_no_phi, numbers_of, IsWellFormed}
+use Rattle.gim_ast.specs.WellFormed.{is_empty, entry_has_no_phi, IsWellFormed}
 use Rattle.gim_changes.specs.Trimming.{trimmed}
 use Rattle.gim_changes.proofs.Members.{IsMember, member_mapped, member_filtered, mapped_member}
 use Rattle.gim_changes.proofs.DistinctNumbers.{AreDistinct, distinct_from, not_later}
@@ -19,8 +19,8 @@ use Rattle.cfg_tidy.specs.declared.change.Tidied.{Tidied}
 use Rattle.cfg_tidy.specs.Branches.{known_target, branch_of, first_branch, is_lost, without_arg, branched_in_block, branched}
 use Rattle.cfg_tidy.specs.Reached.{IsReached}
 use Rattle.cfg_tidy.specs.Removal.{block_stays, without_args, dropped}
-use Rattle.cfg_tidy.specs.SameRuns.{RunAlike, takes_no_phi, take_no_phi}
-use Rattle.cfg_tidy.specs.Tidying.{Makes, branch, drop, phi, Becomes, same, then_on, IsTidied}
+use Rattle.cfg_tidy.specs.SameRuns.{RunAlike, take_no_phi}
+use Rattle.cfg_tidy.specs.Tidying.{branch, drop, phi, Becomes, same, then_on, IsTidied}
 use Rattle.cfg_tidy.proofs.BranchRuns.{branch_runs_alike}
 use Rattle.cfg_tidy.proofs.DroppedRuns.{dropping_runs_alike, entry_reached}
 use Rattle.cfg_tidy.proofs.FirstCopy.{first_some_gives}

@@ -1,6 +1,6 @@
 -- Rows of `names` whose names stand nowhere go: the function runs as before.
-use Rattle.std.proofs.Common.{◌≡◌, ℕ, zero, suc, Bool, true, false, cond, ◌||◌, Option, Some, None, List, [], ◌∷◌, ◌++◌, map, flat_map, eqb, refl, sym, ap, subst, ◌∙◌, inl, inr}
-use Rattle.std.specs.Prelude.{filter, ⊤}
+use Rattle.std.proofs.Common.{◌≡◌, ℕ, zero, suc, Bool, true, false, cond, Option, Some, None, List, [], ◌∷◌, ◌++◌, map, flat_map, eqb, refl, sym, ap, subst, ◌∙◌, inl, inr}
+use Rattle.std.specs.Prelude.{filter}
 use Rattle.std.specs.List.{list_any, AllByRecursion}
 use Rattle.std.specs.Option.{option_map_or}
 use Rattle.std.proofs.lemmas.Bool.{or_left, or_right, both_ways, eqb-true}
@@ -11,10 +11,10 @@ use Rattle.gim_ast.specs.declared.function.Phi.{Phi}
 use Rattle.gim_ast.specs.declared.function.Stmt.{Stmt}
 use Rattle.gim_ast.specs.declared.function.NameRow.{NameRow}
 use Rattle.gim_ast.specs.Functions.{first_where, assigned, assigned_in, phi_name, stmt_name, operands_of, operands_of_block, operands_of_phi, operands_of_stmt, operands_of_end, is_used, row_of, block_of}
-use Rattle.gim_ast.specs.Runs.{Env, assign, start_env, start_word, zero_of, name_type, after_phis, rhs_value, Passage, On, Stuck, pass_stmts, pass_block, Lead, To, Out, lead_of, Place, Step, Further, Ended, step_of_lead, step_of_passage, step_in, step_at, outcome_of, run_from, entry_of, start_of, run_of}
+use Rattle.gim_ast.specs.Runs.{Env, assign, start_env, start_word, zero_of, name_type, after_phis, rhs_value, Passage, On, Stuck, pass_stmts, pass_block, Lead, To, Out, lead_of, Place, Further, step_of_lead, step_of_passage, step_in, step_at, outcome_of, run_from, entry_of, start_of, run_of}
 use Rattle.gim_ast.proofs.ReadableLemmas.{all_left, all_right}
 use Rattle.gim_changes.specs.Trimming.{stands_in, is_empty_text, row_stays, trimmed}
-use Rattle.gim_changes.proofs.Members.{IsMember, member_left, member_right, mapped_member, part_member}
+use Rattle.gim_changes.proofs.Members.{IsMember, member_left, member_right, part_member}
 use Rattle.gim_changes.proofs.RulesOfNames.{first_passes, member_among}
 use Rattle.gim_meaning.proofs.Agreement.{AgreeOn, AllStand, OperandStands, agree_assigned, same_value, same_lead}
 use Rattle.gim_meaning.proofs.OperandsStand.{used_stand, weaker_stand, phis_stand, end_stands, same_phis, PhiTyped}
