@@ -13,7 +13,7 @@ use Rattle.gim_ast.specs.WellFormed.{operand_holds}
 use Rattle.gim_ast.specs.Paths.{flow_of, Path}
 use Rattle.gim_ast.specs.Readable.{names_among, read_for, is_initial, IsValid}
 use Rattle.gim_changes.specs.Trimming.{stands_in}
-use Rattle.gim_changes.specs.Validity.{IsAssignedAfter, IsReadableOperand}
+use Rattle.gim_changes.specs.Validity.{IsAssignedAfter, IsReadableOperand, OperandComesBefore}
 use Rattle.gim_changes.proofs.Members.{IsMember, any_from_member, member_middle, mapped_member, part_member}
 use Rattle.gim_changes.proofs.AssignedBefore.{assigned_where_fresh}
 use Rattle.gim_changes.proofs.NamesRead.{by_phi, by_stmt, by_end}
@@ -54,6 +54,11 @@ good_readable f n left (Const w) holds readable = record {
   stands = λ x is. absurd (both_ways false refl is);
   assigned = λ x is past path. absurd (both_ways false refl is);
 }
+
+-- an operand that comes before a name may be read where the name is about to be assigned
+pub readable_operand : (f : Function) (x : ℕ) (a : Operand) → OperandComesBefore f a x → (n : ℕ) (left : List ℕ) → IsReadableOperand f n (x ∷ left) a
+readable_operand f x (Name y t) comes n left = (comes.stands, comes.readable n left)
+readable_operand f x (Const w) comes n left = tt
 
 module _ (f : Function) (valid : IsValid f) (b : Block) (one : IsMember b f.blocks) where
   old_holds : (a : Operand) → IsMember a (operands_of_block b) → operand_holds f a ≡ true

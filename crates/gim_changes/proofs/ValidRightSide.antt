@@ -1,10 +1,10 @@
 -- A valid function with another right side of a name is valid, once its rows are trimmed, where each operand of it comes before the name.
-use Rattle.std.proofs.Common.{◌≡◌, ◌⊎◌, ℕ, Bool, true, false, cond, List, ◌∷◌, map, eqb, map-id, refl, sym, ap, ◌∙◌, subst, inl, inr, ⊎_elim}
+use Rattle.std.proofs.Common.{◌≡◌, ◌⊎◌, ℕ, Bool, true, false, cond, ◌∷◌, map, eqb, map-id, refl, sym, ap, ◌∙◌, subst, inl, inr, ⊎_elim}
 use Rattle.std.specs.List.{list_all, AllByRecursion}
 use Rattle.std.specs.Option.{option_map_or}
 use Rattle.std.proofs.lemmas.Bool.{and_parts, eqb-true}
 use Rattle.pm_wide.specs.declared.operand.Operand.{Operand}
-use Rattle.pm_wide.specs.declared.operand.Operand.TheVariants.{Name, Const}
+use Rattle.pm_wide.specs.declared.operand.Operand.TheVariants.{Name}
 use Rattle.gim_ast.specs.declared.function.Function.{Function}
 use Rattle.gim_ast.specs.declared.function.Block.{Block}
 use Rattle.gim_ast.specs.declared.function.Stmt.{Stmt}
@@ -16,14 +16,14 @@ use Rattle.gim_ast.specs.WellFormed.{is_among, operand_holds, rhs_fits, phi_fits
 use Rattle.gim_ast.specs.Readable.{names_among, read_for, Supports, IsValid}
 use Rattle.gim_changes.specs.Substitution.{with_rhs, with_rhs_in_block, with_rhs_in_stmt}
 use Rattle.gim_changes.specs.Trimming.{trimmed}
-use Rattle.gim_changes.specs.Validity.{ComesBefore, OperandComesBefore, IsReadableOperand}
+use Rattle.gim_changes.specs.Validity.{ComesBefore, OperandComesBefore}
 use Rattle.gim_changes.proofs.FlowKept.{rhs_name}
 use Rattle.gim_changes.proofs.Members.{IsMember, all_members, each_member}
 use Rattle.gim_changes.proofs.NamesUsed.{named}
 use Rattle.gim_changes.proofs.ComesBefore.{none_in_own_support}
 use Rattle.gim_changes.proofs.SupportChanges.{none_with_new}
 use Rattle.gim_changes.proofs.ChangedBlocks.{with_blocks, block_holds}
-use Rattle.gim_changes.proofs.GoodOperands.{IsGood, good_readable, good_in_phi, good_in_stmt, good_at_end}
+use Rattle.gim_changes.proofs.GoodOperands.{IsGood, readable_operand, good_readable, good_in_phi, good_in_stmt, good_at_end}
 use Rattle.gim_changes.proofs.MappedBlocks.{changed, mapped_in, first_reads, reads_changed, AreGood, AreTyped, valid_changed, mapped_alike}
 
 module _ (x : ℕ) (rhs : Rhs) where
@@ -55,10 +55,6 @@ module _ (x : ℕ) (rhs : Rhs) where
     comes : (a : Operand) → IsMember a (operands_of_rhs rhs) → OperandComesBefore f a x
     comes a one = each_member (λ c. OperandComesBefore f c x) (operands_of_rhs rhs) before a one
 
-    readable : (a : Operand) → OperandComesBefore f a x → (n : ℕ) (left : List ℕ) → IsReadableOperand f n (x ∷ left) a
-    readable (Name y t) its n left = (its.stands, its.readable n left)
-    readable (Const w) its n left = tt
-
     good : AreGood (λ phi. phi) (with_rhs_in_stmt x rhs) end_of (λ phi. refl) (λ phi. refl) (rhs_name x rhs) (λ b. refl) f
     good = record {
       phis = λ b one phi mine m a arg. good_in_phi f valid b one phi mine m a arg;
@@ -66,7 +62,7 @@ module _ (x : ℕ) (rhs : Rhs) where
           (λ new.
           let its = subst (λ (s : Stmt). IsMember a (operands_of_stmt s)) new.1 mine in
           subst (λ z. IsGood f b.number (z ∷ map stmt_name rest) a) (sym new.0)
-          (good_readable f b.number (x ∷ map stmt_name rest) a (all_members (operand_holds f) (operands_of_rhs rhs) holds a its) (readable a (comes a its) b.number (map stmt_name rest))))
+          (good_readable f b.number (x ∷ map stmt_name rest) a (all_members (operand_holds f) (operands_of_rhs rhs) holds a its) (readable_operand f x a (comes a its) b.number (map stmt_name rest))))
           (λ old. good_in_stmt f valid b one front stmt rest is a (subst (λ (s : Stmt). IsMember a (operands_of_stmt s)) old mine))
           (stmt_cases stmt);
       ends = λ b one a mine. good_at_end f valid b one a mine;

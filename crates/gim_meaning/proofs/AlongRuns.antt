@@ -27,7 +27,7 @@ use Rattle.gim_meaning.proofs.Reached.{lies, found_by_number, number_of_found}
 
 -- ---- the flow of a function and its blocks
 
-stretch_found : (f : Function) (n : ℕ) (block : Block) → block_of f n ≡ Some block →
+pub stretch_found : (f : Function) (n : ℕ) (block : Block) → block_of f n ≡ Some block →
     stretch_at (flow_of f) n ≡ Some (stretch_of block)
 unfolding block_of
 stretch_found f n block is =

@@ -2,7 +2,6 @@ pub mod Agreement
 pub mod AllowedInsertions
 pub mod AlongRuns
 pub mod BlockOfPlace
-pub mod Copies
 pub mod InsertionRuns
 pub mod KeptInARow
 pub mod ListSearch
@@ -11,6 +10,9 @@ pub mod NewRightSides
 pub mod NewRows
 pub mod OnePlace
 pub mod OperandsStand
+pub mod PartsOfTerms
+pub mod PathsBack
+pub mod PhiReading
 pub mod PhisOfOneOperand
 pub mod PossibleWords
 pub mod Reached

@@ -1,167 +1,73 @@
 -- An operand that is all that a phi reads, beside its own name, is put for the phi's name: since it
 -- was read no path assigns it.
-use Rattle.std.proofs.Common.{◌≡◌, ◌≢◌, ℕ, ◌+◌, Bool, true, false, cond, eqb, Option, Some, None}
+use Rattle.std.proofs.Common.{◌≡◌, ◌≢◌, ℕ, Bool, true, false, cond, eqb, Some, None}
 use Rattle.std.proofs.Common.{List, [], ◌∷◌, ◌++◌, ◌⊎◌, ◌||◌, map, refl, sym, ap, subst, ◌∙◌}
 use Rattle.std.proofs.Common.{⊎_elim}
+use Rattle.std.proofs.Common.{zero, suc, ◌<◌, length, inl, inr, arith}
+use Rattle.gim_ast.specs.Functions.{assigned_in}
 use Rattle.std.specs.Bool.{IsTrue}
 use Rattle.std.specs.Option.{option_map_or}
-use Rattle.std.specs.List.{list_any, list_all, AllByRecursion}
-use Rattle.std.proofs.lemmas.Bool.{and_parts, not-true, or_parts, or_cases, or_left, or_right}
+use Rattle.std.specs.List.{list_any, AllByRecursion}
+use Rattle.std.proofs.lemmas.Bool.{or_cases, or_left, or_right}
 use Rattle.std.proofs.lemmas.Bool.{both_ways, eq-eqb, eqb-true}
 use Rattle.std.proofs.lemmas.Option.{none-some}
-use Rattle.pm_wide.specs.Types.{Word}
+use Rattle.pm_wide.specs.Types.{Ty, Word}
 use Rattle.pm_wide.specs.declared.operand.Operand.{Operand}
 use Rattle.pm_wide.specs.declared.operand.Operand.TheVariants.{Name, Const}
 use Rattle.gim_ast.specs.declared.function.Function.{Function}
 use Rattle.gim_ast.specs.declared.function.Block.{Block}
 use Rattle.gim_ast.specs.declared.function.Phi.{Phi}
 use Rattle.gim_ast.specs.declared.function.Stmt.{Stmt}
-use Rattle.gim_ast.specs.Functions.{first_where, is_name, phi_name, stmt_name, block_of, right_of}
+use Rattle.gim_ast.specs.Functions.{is_name, phi_name, stmt_name, block_of, right_of}
 use Rattle.gim_ast.specs.Functions.{targets_of}
-use Rattle.gim_ast.specs.WellFormed.{IsWellFormed, is_among, is_assigned, phi_blocks, phi_holds}
-use Rattle.gim_ast.specs.WellFormed.{predecessors}
-use Rattle.gim_ast.specs.Paths.{flow_of, Path}
+use Rattle.gim_ast.specs.WellFormed.{is_among, is_assigned}
+use Rattle.gim_ast.specs.Paths.{stretch_of, flow_of, Path}
 use Rattle.gim_ast.specs.Readable.{names_among, read_for, operand, Fresh, is_initial, IsReadable}
-use Rattle.gim_ast.specs.Readable.{Use, uses_at, uses_in_phi, uses_in_phis, uses_in_block, uses_in}
+use Rattle.gim_ast.specs.Readable.{Use, uses_at, uses_in_phis, uses_in_block, uses_in}
 use Rattle.gim_ast.specs.Readable.{IsReadableUse, IsValid}
+use Rattle.gim_ast.specs.Runs.{entry_of, start_of}
 use Rattle.gim_ast.specs.Runs.{Env, assign, assign_each, word_of_operand, zero_of, name_type}
 use Rattle.gim_ast.specs.Runs.{phi_word, after_phis, lead_of, To}
 use Rattle.gim_run.specs.Blocks.{phi_pair}
-use Rattle.gim_ast.proofs.ReadableLemmas.{all_left, all_right}
 use Rattle.gim_changes.specs.Substitution.{put_in_all}
 use Rattle.gim_changes.specs.Validity.{IsAssignedAfter, OperandComesBefore}
 use Rattle.gim_changes.proofs.AlwaysAssigned.{flow_once, plain_where_assigned}
-use Rattle.gim_changes.proofs.AssignedBefore.{assigned_where_fresh, fresh_where_assigned}
+use Rattle.gim_changes.proofs.AssignedBefore.{assigned_earlier, assigned_where_fresh}
+use Rattle.gim_changes.proofs.AssignedBefore.{fresh_where_assigned}
+use Rattle.gim_changes.proofs.Points.{IsPoint, path_point, one_point}
 use Rattle.gim_changes.proofs.RulesOfNames.{IsOrdered, ordered}
 use Rattle.gim_meaning.specs.KeptRuns.{KeepsDefinedRuns}
-use Rattle.gim_meaning.specs.PhiArguments.{ReadsOnly, AreOthers}
+use Rattle.gim_meaning.specs.PhiArguments.{ReadsOnly}
 use Rattle.gim_meaning.specs.ReachedPoints.{Inside, Reaches}
 use Rattle.gim_meaning.specs.SameReading.{ReadsAlike}
 use Rattle.gim_meaning.proofs.Agreement.{OperandStands, same_word}
-use Rattle.gim_meaning.proofs.AlongRuns.{passed, Known, known_inside, lead_is_target}
-use Rattle.gim_meaning.proofs.ListSearch.{found_passes, all_of_found, all_in_middle, parts_of_found}
-use Rattle.gim_meaning.proofs.ListSearch.{held_by_found, held_in_middle, each_passes}
+use Rattle.gim_meaning.proofs.AlongRuns.{passed, Known, known_inside, lead_is_target, stretch_found}
+use Rattle.gim_meaning.proofs.AlongRuns.{start_has_no_phi}
+use Rattle.gim_meaning.proofs.ListSearch.{found_passes, parts_of_found}
+use Rattle.gim_meaning.proofs.ListSearch.{held_by_found, held_in_middle}
 use Rattle.gim_meaning.proofs.OnePlace.{one_block}
 use Rattle.gim_meaning.proofs.OperandsStand.{unused_stand}
 use Rattle.gim_meaning.proofs.ReadableValues.{IsOther, others_agree, own_word, others_stand}
 use Rattle.gim_meaning.proofs.Reached.{lies, number_of_found}
-use Rattle.gim_meaning.proofs.RightSides.{Has, HasNot, AreDistinct, in_front, front_distinct}
+use Rattle.gim_meaning.proofs.RightSides.{Has, AreDistinct, in_front, front_distinct}
 use Rattle.gim_meaning.proofs.RightSides.{block_distinct, names_distinct, is_assigned_in}
 use Rattle.gim_meaning.proofs.RightSides.{HasNoRight, no_right_at_phis, right_at}
 use Rattle.gim_meaning.proofs.SubstitutionRuns.{each_of, uses_of_args, uses_of_block}
 use Rattle.gim_meaning.proofs.SubstitutionRuns.{substitution_keeps_runs}
+use Rattle.gim_meaning.proofs.PathsBack.{came_by, has_splits}
+use Rattle.gim_meaning.proofs.PhiReading.{has_phi, none_named, only_phi, uses_of_phi, named_word}
+use Rattle.gim_meaning.proofs.PhiReading.{named_readable, has_argument}
 
--- ---- phis of distinct names
-
-has_phi : (front : List Phi) (phi : Phi) (rest : List Phi) →
-    Has phi.name (map phi_name (front ++ phi ∷ rest))
-has_phi [] phi rest =
-    or_left (eqb phi.name phi.name) (list_any (eqb phi.name) (map phi_name rest))
-    (eq-eqb phi.name phi.name refl)
-has_phi (other ∷ front) phi rest =
-    or_right (eqb phi.name other.name)
-    (list_any (eqb phi.name) (map phi_name (front ++ phi ∷ rest))) (has_phi front phi rest)
-
-none_named : (y : ℕ) (phis : List Phi) → HasNot y (map phi_name phis) →
-    AllByRecursion (λ (phi : Phi). phi.name ≢ y) phis
-none_named y [] h = tt
-none_named y (phi ∷ phis) h =
-    let parts = or_parts (eqb y phi.name) (list_any (eqb y) (map phi_name phis)) h in (
-      λ same. both_ways (eqb y phi.name) parts.0
-          (eq-eqb y phi.name (sym same)),
-      none_named y phis parts.1,
-    )
-
-only_phi : (front : List Phi) (phi : Phi) (rest : List Phi) →
-    AreDistinct (map phi_name (front ++ phi ∷ rest)) →
-    AllByRecursion (λ (other : Phi). other.name ≡ phi.name → other ≡ phi) (front ++ phi ∷ rest)
-only_phi [] phi rest h =
-    let none = not-true (list_any (eqb phi.name) (map phi_name rest)) ((and_parts _ _ h).0) in (
-      λ same. refl,
-      each_of (λ (other : Phi). other.name ≢ phi.name)
-          (λ (other : Phi). other.name ≡ phi.name → other ≡ phi)
-          (λ other apart same. absurd (apart same)) rest (none_named phi.name rest none),
-    )
-only_phi (first ∷ front) phi rest h =
-    let parts = and_parts _ _ h in
-    let there = map phi_name (front ++ phi ∷ rest) in
-    let none = not-true (list_any (eqb first.name) there) parts.0 in (
-      λ same. absurd (both_ways _ none
-          (subst (λ z. Has z (map phi_name (front ++ phi ∷ rest))) (sym same)
-          (has_phi front phi rest))),
-      only_phi front phi rest parts.1,
-    )
-
--- the uses of a phi in the middle
-uses_of_phi : (P : Use → Type 0) (n k : ℕ) (front : List Phi) (phi : Phi) (rest : List Phi) →
-    AllByRecursion P (uses_in_phis n k (front ++ phi ∷ rest)) →
-    (j : ℕ) × AllByRecursion P (uses_in_phi n j phi)
-uses_of_phi P n k [] phi rest all =
-    (k, all_left P (uses_in_phi n k phi) (uses_in_phis n (k + 1) rest) all)
-uses_of_phi P n k (first ∷ front) phi rest all =
-    uses_of_phi P n (k + 1) front phi rest
-    (all_right P (uses_in_phi n k first) (uses_in_phis n (k + 1) (front ++ phi ∷ rest)) all)
-
--- ---- arguments
-
-named_word : (x : ℕ) (e : Env) (a : Operand) → is_name x a ≡ true → word_of_operand e a ≡ e x
-named_word x e (Name y t) h = ap e (eqb-true y x h)
-named_word x e (Const w) h = absurd (both_ways false refl h)
-
-named_readable : (f : Function) (x n k at : ℕ) (a : Operand) → is_name x a ≡ true →
-    AllByRecursion (IsReadableUse f) (uses_at n k at [] (a ∷ [])) → IsReadable f x at []
-named_readable f x n k at (Name y t) h uses =
-    subst (λ z. IsReadable f z at []) (eqb-true y x h) uses.0
-named_readable f x n k at (Const w) h uses = absurd (both_ways false refl h)
-
-first_named : (n : ℕ) (args : List (ℕ × Operand)) →
-    is_among n (map (λ (arg : ℕ × Operand). arg.0) args) ≡ true →
-    (arg : ℕ × Operand) × (first_where (λ (a : ℕ × Operand). eqb a.0 n) args ≡ Some arg)
-first_named n [] h = absurd (both_ways false refl h)
-first_named n (arg ∷ args) h = by (eqb arg.0 n) h (first_named n args)
-  where
-    Found : Option (ℕ × Operand) → Type 0
-    Found o = (a : ℕ × Operand) × (o ≡ Some a)
-
-    by : (b : Bool) → (b || is_among n (map (λ (a : ℕ × Operand). a.0) args)) ≡ true →
-        (is_among n (map (λ (a : ℕ × Operand). a.0) args) ≡ true →
-        Found (first_where (λ (a : ℕ × Operand). eqb a.0 n) args)) →
-        Found (cond b (Some arg) (first_where (λ (a : ℕ × Operand). eqb a.0 n) args))
-    by true e more = (arg, refl)
-    by false e more = more e
-
--- a phi of a well-formed function has an argument for each block that jumps to it
-has_argument : (f : Function) → IsWellFormed f → (block : Block) →
-    block_of f block.number ≡ Some block → (front : List Phi) (phi : Phi) (rest : List Phi) →
-    block.phis ≡ front ++ phi ∷ rest →
-    (before : Block) → block_of f before.number ≡ Some before →
-    is_among block.number (targets_of before.end) ≡ true →
-    (arg : ℕ × Operand) ×
-    (first_where (λ (a : ℕ × Operand). eqb a.0 before.number) phi.args ≡ Some arg)
-unfolding block_of
-has_argument f well block found front phi rest split before before_found jumps =
-    let n = block.number in
-    let all = all_of_found (λ (b : Block). eqb b.number n)
-    (λ (b : Block). list_all (phi_holds f b.number) b.phis) f.blocks block found
-    ((and_parts _ _ well.blocks).1) in
-    let holds = all_in_middle (phi_holds f n) front phi rest
-    (subst (λ ps. list_all (phi_holds f n) ps ≡ true) split all) in
-    let covered = (and_parts _ _ (and_parts _ _ holds).0).1 in
-    let ways : Block → List ℕ =
-    λ b. cond (list_any (λ to. eqb to n) (targets_of b.end)) (b.number ∷ []) [] in
-    let own = parts_of_found (λ (b : Block). eqb b.number before.number)
-    (λ m. is_among m (phi_blocks phi) ≡ true) ways f.blocks before before_found
-    (each_passes (λ m. is_among m (phi_blocks phi)) (predecessors f n) covered) in
-    first_named before.number phi.args
-    (subst (λ b. AllByRecursion (λ m. is_among m (phi_blocks phi) ≡ true)
-    (cond b (before.number ∷ []) [])) jumps own).0
+-- none of the phis assigns the operand
+abbrev AreOthers : Operand → List Phi → Type 0
+AreOthers by phis = AllByRecursion (λ (phi : Phi). is_name phi.name by ≡ false) phis
 
 -- ---- a phi of one operand
 
 module _ (f : Function) (valid : IsValid f) (block : Block)
     (found : block_of f block.number ≡ Some block) (front : List Phi) (phi : Phi) (rest : List Phi)
     (split : block.phis ≡ front ++ phi ∷ rest)
-    (by : Operand) (reads : ReadsOnly by phi) (others : AreOthers by block.phis)
+    (by : Operand) (reads : ReadsOnly by phi)
     (comes : OperandComesBefore f by phi.name) where
   -- as if the phi were a statement that reads the operand
   abbrev own : ℕ → List ℕ
@@ -207,6 +113,34 @@ module _ (f : Function) (valid : IsValid f) (block : Block)
   not_initial : IsTrue (is_initial f phi.name) → ⊥
   not_initial initial =
       both_ways (is_assigned f phi.name) (order.unassigned phi.name initial) x_assigned
+
+  phi_not_initial : (z : ℕ) → Has z (map phi_name block.phis) → IsTrue (is_initial f z) → ⊥
+  phi_not_initial z has initial =
+      both_ways (is_assigned f z) (order.unassigned z initial)
+      (is_assigned_in f block.number block z found
+      (in_front z (map phi_name block.phis) (map stmt_name block.stmts) has))
+
+  phi_point : (z : ℕ) → Has z (map phi_name block.phis) →
+      (after : List ℕ) × IsPoint (flow_of f) block.number (z ∷ after)
+  phi_point z has =
+      let parts = has_splits z (assigned_in block)
+      (in_front z (map phi_name block.phis) (map stmt_name block.stmts) has) in (
+        parts.1,
+        record {
+          home = stretch_of block;
+          at =
+              stretch_found f block.number block found;
+          front = parts.0;
+          is = parts.2;
+        },
+      )
+
+  has_no_entry : block.number ≡ entry_of f.blocks → ⊥
+  unfolding start_of
+  has_no_entry number =
+      let none = start_has_no_phi f [] valid.well_formed block
+      (subst (λ m. block_of f m ≡ Some block) number found) in
+      both_ways false refl (subst (λ ps. Has phi.name (map phi_name ps)) none has_x)
 
   -- where x is readable, the operand wasn't assigned since x was
   fresh_there : (n : ℕ) (left past : List ℕ) → Path (flow_of f) n left past →
@@ -333,6 +267,95 @@ module _ (f : Function) (valid : IsValid f) (block : Block)
       (named_readable f phi.name block.number uses.0 arg.0.0 arg.0.1 named read_there))))
       only
 
+  -- a name that the phi reads from a block that jumps here: the operand's, or its own
+  record ReadsFrom (y : ℕ) (before : Block) : Type 0 where
+    name : ℕ
+    either : (name ≡ y) ⊎ (name ≡ phi.name)
+    readable : IsReadable f name before.number []
+
+  reads_from : (y : ℕ) (t : Ty) → by ≡ Name y t → (before : Block) →
+      block_of f before.number ≡ Some before →
+      is_among block.number (targets_of before.end) ≡ true → ReadsFrom y before
+  reads_from y t is before before_found jumps =
+      let p = λ (a : ℕ × Operand). eqb a.0 before.number in
+      let arg = has_argument f valid.well_formed block found front phi rest split before
+      before_found jumps in
+      let only = held_by_found p (λ (a : ℕ × Operand). (a.1 ≡ by) ⊎ IsTrue (is_name phi.name a.1))
+      phi.args arg.0 arg.1 reads in
+      let there = held_by_found p (λ (a : ℕ × Operand). AllByRecursion (IsReadableUse f)
+      (uses_at block.number uses_here.0 a.0 [] (a.1 ∷ []))) phi.args arg.0 arg.1 uses_here.1 in
+      let from = eqb-true arg.0.0 before.number (found_passes p phi.args arg.0 arg.1) in
+      ⊎_elim
+      (λ same. record {
+        name = y;
+        either = inl refl;
+        readable = subst (λ m. IsReadable f y m []) from
+            (named_readable f y block.number uses_here.0 arg.0.0 arg.0.1
+            (subst (λ a. is_name y a ≡ true) (sym (same ∙ is)) (eq-eqb y y refl)) there);
+      })
+      (λ named. record {
+        name = phi.name;
+        either = inr refl;
+        readable = subst (λ m. IsReadable f phi.name m []) from
+            (named_readable f phi.name block.number uses_here.0 arg.0.0 arg.0.1 named there);
+      })
+      only
+
+  -- no path comes here where a phi beside this one assigns the operand: each turn would need one
+  -- before it
+  never : (y : ℕ) (t : Ty) → by ≡ Name y t → Has y (map phi_name block.phis) →
+      (k : ℕ) (past : List ℕ) → length past < k → (before : Block) →
+      block_of f before.number ≡ Some before →
+      is_among block.number (targets_of before.end) ≡ true →
+      Path (flow_of f) before.number [] past → ⊥
+  never y t is has zero past within before before_found jumps path = omega arith
+  never y t is has (suc k) past within before before_found jumps path =
+      let read = reads_from y t is before before_found jumps in
+      let z = read.name in
+      let has_z : Has z (map phi_name block.phis) =
+      ⊎_elim (λ same. subst (λ w. Has w (map phi_name block.phis)) (sym same) has)
+      (λ same. subst (λ w. Has w (map phi_name block.phis)) (sym same) has_x) read.either in
+      let assigned = assigned_where_fresh (is_initial f) (read_for f) z past
+      (read.readable.fresh past path) in
+      let earlier = assigned_earlier (flow_of f) (is_initial f) z
+      (phi_not_initial z has_z) before.number [] past path assigned in
+      let point = phi_point z has_z in
+      let met = one_point (flow_of f) (flow_once f order) z earlier.at block.number earlier.left
+      point.0 (path_point (flow_of f) earlier.at (z ∷ earlier.left) earlier.before earlier.path)
+      point.1 in
+      ⊎_elim
+      (λ at_entry. has_no_entry (sym met.0 ∙ at_entry))
+      (λ came. never y t is has k came.earlier
+      (omega (arith, came.shorter, earlier.shorter)) came.before came.found
+      (subst (λ m. is_among m (targets_of came.before.end) ≡ true) met.0 came.jumps) came.path)
+      (came_by f earlier.at (z ∷ earlier.left) earlier.before earlier.path)
+
+  others_there : (before : Block) (past : List ℕ) → block_of f before.number ≡ Some before →
+      is_among block.number (targets_of before.end) ≡ true →
+      Path (flow_of f) before.number [] past → AreOthers by block.phis
+  others_there before past before_found jumps path = each by refl block.phis (λ y has. has)
+    where
+      each : (a : Operand) → by ≡ a → (phis : List Phi) →
+          ((y : ℕ) → Has y (map phi_name phis) → Has y (map phi_name block.phis)) → AreOthers a phis
+      each (Const w) same [] within = tt
+      each (Const w) same (p ∷ phis) within = (
+        refl,
+        each (Const w) same phis
+            (λ y h. within y (or_right (eqb y p.name) (list_any (eqb y) (map phi_name phis)) h)),
+      )
+      each (Name y t) same [] within = tt
+      each (Name y t) same (p ∷ phis) within = (
+        other (eqb y p.name) refl,
+        each (Name y t) same phis (λ z h. within z
+            (or_right (eqb z p.name) (list_any (eqb z) (map phi_name phis)) h)),
+      )
+        where
+          other : (b : Bool) → eqb y p.name ≡ b → b ≡ false
+          other true h = absurd (never y t same
+              (within y (or_left (eqb y p.name) (list_any (eqb y) (map phi_name phis)) h))
+              (suc (length past)) past (omega arith) before before_found jumps path)
+          other false h = refl
+
   at_phis : (args : List Word) (before other : Block) (e : Env) (n : ℕ) (past : List ℕ) →
       Reaches f args (Inside before [] e) → lead_of e before.end ≡ To n →
       block_of f n ≡ Some other →
@@ -354,7 +377,8 @@ module _ (f : Function) (valid : IsValid f) (block : Block)
           let word = word_read before e past (lies reached).found jumps path known in
           subst (λ (b : Block). HasItsWord (passed (map phi_name b.phis) past)
           (after_phis f before.number b.phis e)) (sym same)
-          (phis_here before.number e word block.phis only_here others past e refl known)
+          (phis_here before.number e word block.phis only_here
+          (others_there before past (lies reached).found jumps path) past e refl known)
 
       choose : (b : Bool) → list_any (eqb phi.name) (map phi_name other.phis) ≡ b →
           HasItsWord (passed (map phi_name other.phis) past)

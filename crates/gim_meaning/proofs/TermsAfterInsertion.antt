@@ -3,7 +3,7 @@ use Rattle.std.proofs.Common.{◌≡◌, ◌≢◌, ℕ, zero, suc, Bool, true, 
 use Rattle.std.proofs.Common.{None, List, [], ◌∷◌, ◌++◌, take, drop, insert, slice_get, refl, sym}
 use Rattle.std.proofs.Common.{ap, subst, ◌∙◌, arith, take-append-drop}
 use Rattle.std.specs.Option.{option_map_or}
-use Rattle.std.specs.List.{list_any, list_all, flat_map}
+use Rattle.std.specs.List.{list_all, flat_map}
 use Rattle.std.proofs.lemmas.Bool.{and_parts, eqb-true, eq-eqb}
 use Rattle.std.proofs.lemmas.Bool.Decides.{nat_tests}
 use Rattle.std.proofs.lemmas.List.Folds.{list_all-append}
@@ -20,11 +20,10 @@ use Rattle.gim_ast.specs.declared.function.NameRow.{NameRow}
 use Rattle.gim_ast.specs.declared.function.Rhs.{Rhs}
 use Rattle.gim_ast.specs.declared.function.Rhs.TheVariants.{Copy, Op}
 use Rattle.gim_ast.specs.Functions.{first_where, operands_of_rhs, operands_of_stmt, right_of}
-use Rattle.gim_ast.specs.Functions.{assigned, assigned_in}
 use Rattle.gim_ast.specs.Functions.{row_of, stmts_of}
-use Rattle.gim_ast.specs.WellFormed.{IsWellFormed, operand_holds, stmt_fits, rhs_fits, is_assigned}
+use Rattle.gim_ast.specs.WellFormed.{IsWellFormed, operand_holds, stmt_fits, rhs_fits}
 use Rattle.gim_ast.specs.Runs.{name_type}
-use Rattle.gim_meaning.proofs.RightSides.{any_turned, no_stmt_among, stmts_in, assigns}
+use Rattle.gim_meaning.proofs.RightSides.{stmts_in, assigns}
 use Rattle.gim_meaning.proofs.RightSides.{rhs_of_found}
 use Rattle.gim_run.specs.Slots.{stmt_holds}
 use Rattle.gim_run.specs.Blocks.{block_holds}
@@ -61,19 +60,6 @@ found_is_right f well y stmt found = (
 pub record FitsItsName (f : Function) (y : ℕ) (rhs : Rhs) : Type 0 where
   pub fits : rhs_fits (name_type f y) rhs ≡ true
   pub operands : list_all (operand_holds f) (operands_of_rhs rhs) ≡ true
-  pub row : option_map_or (λ (row : NameRow). rhs_fits row.ty rhs) (row_of f y) false ≡ true
-  pub assigned : is_assigned f y ≡ true
-
--- a name with a statement is assigned
-assigned_by_stmt : (f : Function) (y : ℕ) (stmt : Stmt) →
-    first_where (assigns y) (stmts_of f) ≡ Some stmt → is_assigned f y ≡ true
-unfolding assigned
-assigned_by_stmt f y stmt found = by (list_any (eqb y) (flat_map assigned_in f.blocks)) refl
-  where
-    by : (b : Bool) → list_any (eqb y) (flat_map assigned_in f.blocks) ≡ b →
-        list_any (λ z. eqb z y) (flat_map assigned_in f.blocks) ≡ true
-    by true has = any_turned y (flat_map assigned_in f.blocks) ∙ has
-    by false none = absurd (none-some stmt (sym (no_stmt_among y f.blocks none) ∙ found))
 
 pub right_fits_its_name : (f : Function) → IsWellFormed f → (y : ℕ) (rhs : Rhs) →
     right_of f y ≡ Some rhs → FitsItsName f y rhs
@@ -92,13 +78,6 @@ right_fits_its_name f well y rhs is = by (first_where (assigns y) (stmts_of f)) 
               (stmt_typed f stmt right.1));
           operands = subst (λ r. list_all (operand_holds f) (operands_of_rhs r) ≡ true) same
               (stmt_known f stmt right.1);
-          row = subst (λ z. option_map_or (λ (row : NameRow). rhs_fits row.ty rhs)
-              (row_of f z) false ≡ true) right.0
-              (subst (λ r. option_map_or (λ (row : NameRow). rhs_fits row.ty r)
-              (row_of f stmt.name) false ≡ true) same
-              (and_parts (stmt_fits f stmt)
-              (list_all (operand_holds f) (operands_of_stmt stmt)) right.1).0);
-          assigned = assigned_by_stmt f y stmt found;
         }
 
 none_without_row : (f : Function) → IsWellFormed f → (new : ℕ) → row_of f new ≡ None →

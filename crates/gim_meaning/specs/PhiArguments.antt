@@ -1,5 +1,5 @@
 -- Phis that read one operand.
-use Rattle.std.specs.Prelude.{◌≡◌, ℕ, IsTrue, false, ◌⊎◌, List}
+use Rattle.std.specs.Prelude.{◌≡◌, ℕ, IsTrue, ◌⊎◌}
 use Rattle.std.specs.List.{AllByRecursion}
 use Rattle.pm_wide.specs.declared.operand.Operand.{Operand}
 use Rattle.gim_ast.specs.declared.function.Phi.{Phi}
@@ -9,7 +9,3 @@ use Rattle.gim_ast.specs.Functions.{is_name}
 abbrev pub ReadsOnly : Operand → Phi → Type 0
 ReadsOnly by phi =
     AllByRecursion (λ (arg : ℕ × Operand). (arg.1 ≡ by) ⊎ IsTrue (is_name phi.name arg.1)) phi.args
-
--- none of the phis assigns the operand
-abbrev pub AreOthers : Operand → List Phi → Type 0
-AreOthers by phis = AllByRecursion (λ (phi : Phi). is_name phi.name by ≡ false) phis

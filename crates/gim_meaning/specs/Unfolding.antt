@@ -68,3 +68,17 @@ Refines left right = (words : ℕ → Ty → Word) → AreWordsOfNames words →
 abbrev pub IsDefinedWith : Tree → Tree → Type 0
 IsDefinedWith left part = (words : ℕ → Ty → Word) → AreWordsOfNames words →
     IsSome (term_value words left) → IsSome (term_value words part)
+
+mutual
+  -- the part is the term itself, or a part of one of its operands
+  pub data IsPartOf (part : Tree) : Tree → Type 0 where
+    itself_whole : IsPartOf part part
+    below : (code : Code) (ty : Ty) (terms : Trees) → IsPartOfOne part terms →
+        IsPartOf part (node code ty terms)
+
+  -- the part is one of one of the terms
+  pub data IsPartOfOne (part : Tree) : Trees → Type 0 where
+    of_first : (term : Tree) (terms : Trees) → IsPartOf part term →
+        IsPartOfOne part (cons term terms)
+    of_later : (term : Tree) (terms : Trees) → IsPartOfOne part terms →
+        IsPartOfOne part (cons term terms)

@@ -10,7 +10,8 @@ ghost use Rattle.gim_ast.specs.Paths.{flow_of, Path};
 ghost use Rattle.gim_ast.specs.Readable.{read_for, Supports, uses_in, IsReadable, IsValid};
 ghost use Rattle.gim_ast.specs.WellFormed.{is_assigned, IsWellFormed};
 ghost use Rattle.gim_changes.specs.Trimming.{stands_in};
-ghost use Rattle.gim_changes.specs.Validity.{IsAlwaysAssigned, IsAlwaysAssignedUse, ComesBefore};
+ghost use Rattle.gim_changes.specs.Validity.{IsAlwaysAssigned, IsAlwaysAssignedUse};
+ghost use Rattle.gim_changes.specs.Validity.{ComesBefore, IsReadableOperand, OperandComesBefore};
 
 /// A well-formed function is valid exactly where each path to a use assigns the name that is read there, and the
 /// name isn't in its own support. That its support isn't assigned since then follows.
@@ -36,6 +37,12 @@ pub fn what_comes_before_is_readable()
     ensures { (f : Function) (x y n : ℕ) (left : List ℕ) → IsValid f → IsTrue (is_assigned f x) →
         ComesBefore f y x →
         IsReadable f x n left → IsReadable f y n left }
+{}
+
+/// So may an operand be read where the name that it comes before is about to be assigned.
+pub fn what_comes_before_may_be_read_there()
+    ensures { (f : Function) (x n : ℕ) (left : List ℕ) (a : Operand) → OperandComesBefore f a x →
+        IsReadableOperand f n (x ∷ left) a }
 {}
 
 /// Each name of the support of a name comes before it.

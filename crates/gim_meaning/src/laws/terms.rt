@@ -27,6 +27,7 @@ ghost use Rattle.gim_meaning.specs.KeptRuns.{KeepsDefinedRuns};
 ghost use Rattle.gim_meaning.specs.PresentValues.{AreTyped, ArePossible};
 ghost use Rattle.gim_meaning.specs.ReachedPoints.{Lies};
 ghost use Rattle.gim_meaning.specs.Unfolding.{Unfolds, UnfoldsRight, MayRead, IsOfSupport};
+ghost use Rattle.gim_meaning.specs.Unfolding.{IsPartOf};
 ghost use Rattle.gim_meaning.specs.Unfolding.{words_in, AreWordsOfNames, Refines, IsDefinedWith};
 
 /// Where operands are readable, a term that stands for one has its word, and a term that stands for
@@ -93,6 +94,13 @@ pub fn insertion_keeps_runs()
         allowed.home.end ≡ If code a b yes_to no_to →
         UnfoldsRight f bool_type (Op code (a ∷ b ∷ [])) old → UnfoldsRight f decl.ty stmt.rhs part →
         IsDefinedWith old part → KeepsDefinedRuns f (with_stmt place before stmt decl f) }
+{}
+
+/// Each part of a term that has a value wherever another has one, has one there too: so the
+/// operations inside of a result may be inserted before the result is put.
+pub fn parts_are_defined_with_the_whole()
+    ensures { (old whole part : Tree) → Refines old whole → IsPartOf part whole →
+        IsDefinedWith old part }
 {}
 
 /// Past such a statement terms stand for what they stood for, and the new name stands for what its

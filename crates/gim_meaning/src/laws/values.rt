@@ -18,7 +18,7 @@ ghost use Rattle.gim_changes.specs.Insertion.{with_stmt, MayBeInserted};
 ghost use Rattle.gim_changes.specs.Substitution.{put_in_all, with_rhs, with_condition};
 ghost use Rattle.gim_changes.specs.Validity.{OperandComesBefore};
 ghost use Rattle.gim_meaning.specs.KeptRuns.{KeepsDefinedRuns};
-ghost use Rattle.gim_meaning.specs.PhiArguments.{ReadsOnly, AreOthers};
+ghost use Rattle.gim_meaning.specs.PhiArguments.{ReadsOnly};
 ghost use Rattle.gim_meaning.specs.ReachedPoints.{Lies};
 ghost use Rattle.gim_meaning.specs.SameReading.{AlwaysReadsAlike, AlwaysGivesAlike};
 ghost use Rattle.gim_meaning.specs.SameReading.{AlwaysDecidesAlike, AlwaysHasValueThere};
@@ -34,13 +34,13 @@ pub fn substitution_keeps_runs()
         KeepsDefinedRuns f (put_in_all x by f) }
 {}
 
-/// An operand put for the name of a phi that reads nothing else, beside its own name: the operand
-/// comes before the name, and no phi of the block assigns it.
+/// An operand put for the name of a phi that reads nothing else, beside its own name, and comes
+/// before it.
 pub fn one_operand_keeps_runs()
     ensures { (f : Function) (block : Block) (front : List Phi) (phi : Phi) (rest : List Phi)
         (by : Operand) → IsValid f → block_of f block.number ≡ Some block →
-        block.phis ≡ front ++ phi ∷ rest → ReadsOnly by phi → AreOthers by block.phis →
-        OperandComesBefore f by phi.name → KeepsDefinedRuns f (put_in_all phi.name by f) }
+        block.phis ≡ front ++ phi ∷ rest → ReadsOnly by phi → OperandComesBefore f by phi.name →
+        KeepsDefinedRuns f (put_in_all phi.name by f) }
 {}
 
 /// A right side that has the old one's value before the statement.
