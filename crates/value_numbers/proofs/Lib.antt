@@ -5,3 +5,4 @@ pub mod ReadableNames
 pub mod SpotLists
 pub mod TakenNames
 pub mod MergedFunctions
+pub mod OneAnswer

@@ -5,6 +5,7 @@
 mod carrying;
 mod equality;
 mod heads;
+pub mod laws;
 mod merges;
 mod numbering;
 mod places;
