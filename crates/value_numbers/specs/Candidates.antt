@@ -17,4 +17,5 @@ pub record ComputesAlike (f : Function) (stmt other : Stmt) : Type 0 where
 abbrev pub IsLeastAmong : Function → Spot → List Spot → Option ℕ → Type 0
 IsLeastAmong f spot spots found = MatchOption found
     (AllByRecursion (λ (other : Spot). MayTake f spot other.stmt.name → ⊥) spots)
-    (λ y. MayTake f spot y × AllByRecursion (λ (other : Spot). MayTake f spot other.stmt.name → y ≤ other.stmt.name) spots)
+    (λ y. MayTake f spot y × AllByRecursion
+    (λ (other : Spot). MayTake f spot other.stmt.name → y ≤ other.stmt.name) spots)

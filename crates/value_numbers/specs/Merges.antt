@@ -11,8 +11,8 @@ use Rattle.gim_changes.specs.Substitution.{put_in_all}
 use Rattle.gim_changes.specs.Trimming.{trimmed}
 use Rattle.value_numbers.specs.Spots.{Spot, spots_of}
 
--- y may be taken for the name of the statement: it is another name, a statement assigns it that has the same type and
--- the same right side, operand by operand, and it is readable before the statement
+-- y may be taken for the name of the statement: it is another name, a statement assigns it that has
+-- the same type and right side, operand by operand, and it is readable before the statement
 pub record MayTake (f : Function) (spot : Spot) (y : ℕ) : Type 0 where
   pub other : y ≡ spot.stmt.name → ⊥
   pub right : right_of f y ≡ Some spot.stmt.rhs
@@ -46,7 +46,8 @@ IsMerge f x y = IsFirst f (spots_of f) x y
 abbrev pub merged : ℕ → ℕ → Function → Function
 merged x y f = trimmed (without x (put_in_all x (Name y (name_type f y)) f))
 
--- `Numbers f merges g`: these are the merges, one after the other, until there is none, and g is what they leave
+-- `Numbers f merges g`: these are the merges, one after the other, until there is none, and g is
+-- what they leave
 pub data Numbers : Function → List (ℕ × ℕ) → Function → Type 0 where
   done : (f : Function) → AllByRecursion (HasNone f) (spots_of f) → Numbers f [] f
   merge : (f g : Function) (x y : ℕ) (merges : List (ℕ × ℕ)) → IsMerge f x y →

@@ -29,12 +29,14 @@ spots_of f = flat_map spots_of_block f.blocks
 -- ---- by places
 
 abbrev pub spot_in : Block → ℕ → Option Spot
-spot_in block k = option_map (λ stmt. record { home = block.number; stmt = stmt; left = map stmt_name (drop k block.stmts) })
+spot_in block k = option_map
+    (λ stmt. record { home = block.number; stmt = stmt; left = map stmt_name (drop k block.stmts) })
     (slice_get block.stmts k)
 
 -- the statement at a place
 abbrev pub spot_at : Function → Place → Option Spot
-spot_at f place = option_and_then (λ (block : Block). spot_in block place.stmt) (slice_get f.blocks place.block)
+spot_at f place = option_and_then (λ (block : Block). spot_in block place.stmt)
+    (slice_get f.blocks place.block)
 
 -- these places are those of these statements, one by one
 abbrev pub ArePlaces : Function → List Place → List Spot → Type 0

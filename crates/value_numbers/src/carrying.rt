@@ -1,4 +1,5 @@
-//! Carrying a merge out: one name is put for the other in every use, and the other's statement goes.
+//! Carrying a merge out: one name is put for the other in every use, and the other's statement
+//! goes.
 ghost use Rattle.std.specs.Prelude.{◌≡◌, ◌<◌, filter, map, remove, length};
 ghost use Rattle.gim_changes.specs.Removal as removal;
 ghost use Rattle.gim_changes.specs.Removal.{phi_stays, stmt_stays};
@@ -10,8 +11,8 @@ use gim_changes::{put_in_all, trim};
 use pm_items::Items;
 use pm_wide::Operand;
 
-/// Puts the name `taken` for `name` in every use, and removes the statement of `name`, with its row of `names` where
-/// nothing else keeps it.
+/// Puts the name `taken` for `name` in every use, and removes the statement of `name`, with its row
+/// of `names` where nothing else keeps it.
 pub fn merge(function: &mut Function, name: u32, taken: u32)
     ensures { function.new ≡ merges.merged name taken function.old }
 {

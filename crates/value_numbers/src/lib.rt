@@ -1,5 +1,5 @@
-//! Value numbering: of two statements that compute the same from the same operands one is enough, where the other's name
-//! may be read.
+//! Value numbering: of two statements that compute the same from the same operands one is enough,
+//! where the other's name may be read.
 #![tactic(auto)]
 
 mod carrying;

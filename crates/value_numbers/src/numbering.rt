@@ -11,7 +11,8 @@ use pm_items::Items;
 use pm_ops::OutOfMemory;
 use std::alloc::Global;
 
-/// A function after value numbering, and the merges that were made: each name that went, and the one that stands for it.
+/// A function after value numbering, and the merges that were made: each name that went, and the
+/// one that stands for it.
 #[derive(Drop)]
 pub struct Numbered {
     pub function: Function,
@@ -20,9 +21,10 @@ pub struct Numbered {
 
 /// Merges statements that compute alike, until there are none.
 ///
-/// At the first statement in program order for which there is one, the least other name is taken that a statement of the
-/// same type and right side assigns, and that is readable there; it is put for the statement's name in every use, and the
-/// statement goes. This is repeated. The function stays valid, and keeps every defined run.
+/// At the first statement in program order for which there is one, the least other name is taken
+/// that a statement of the same type and right side assigns, and that is readable there; it is put
+/// for the statement's name in every use, and the statement goes. This is repeated. The function
+/// stays valid, and keeps every defined run.
 pub fn number(alloc: Global, mut function: Function) -> Result<Numbered, OutOfMemory>
     requires { IsValid function }
     ensures merges { IfOk result (λ numbered. Numbers function numbered.merges numbered.function) }

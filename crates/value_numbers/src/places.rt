@@ -8,7 +8,8 @@ use pm_items::Items;
 use pm_ops::OutOfMemory;
 use std::alloc::Global;
 
-/// Where a statement stands: the place of its block, and its place among the statements of the block.
+/// Where a statement stands: the place of its block, and its place among the statements of the
+/// block.
 #[derive(Clone, Copy)]
 pub struct Place {
     pub block: usize,
@@ -23,7 +24,8 @@ fn push_block(
 ) -> Result<(), OutOfMemory>
     requires { block < length function.now.blocks }
     ensures { OnOk result ((home : Block) → slice_get function.now.blocks block ≡ Some home →
-        map (spot_at function.now) places.new ≡ map (spot_at function.now) places.old ++ map Some (spots_of_block home)) }
+        map (spot_at function.now) places.new
+        ≡ map (spot_at function.now) places.old ++ map Some (spots_of_block home)) }
 {
     for stmt in 0..function.blocks.at(block).stmts.len() {
         places.push(Place { block, stmt })?;
