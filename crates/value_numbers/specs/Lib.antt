@@ -1,0 +1,5 @@
+pub mod Candidates
+pub mod Heads
+pub mod Merges
+pub mod Misses
+pub mod Spots

@@ -1,0 +1,14 @@
+//! Value numbering: of two statements that compute the same from the same operands one is enough,
+//! where the other's name may be read.
+#![tactic(auto)]
+
+mod carrying;
+mod equality;
+mod heads;
+pub mod laws;
+mod merges;
+mod numbering;
+mod places;
+mod readable;
+
+pub use numbering::{Numbered, number};
