@@ -18,6 +18,7 @@ use Rattle.pm_wide.proofs.Values.{exact_cases}
 use Rattle.pm_wide.proofs.Words.{same_word, value_congruent}
 use Rattle.pm_term.specs.Terms.{operation_on, with_value, term_value}
 use Rattle.pm_term.specs.Trees.{Tree, name, constant, node, Trees, nil, cons, type_of, IsWellTyped}
+use Rattle.pm_term.proofs.OperandValues.{one_value, two_values}
 use Rattle.pm_term.proofs.TermLaws.{values_are_words}
 use Rattle.bit_tables.specs.TableClass.{HasConstant, keeps_to_bits, IsBitwise, AreBitwise, IsBuiltBy, IsBuilt, AreBuilt}
 use Rattle.bit_tables.specs.TableEqual.{AreTableEqual}
@@ -118,18 +119,6 @@ module _ (p : ℕ) where
   ternary_apart : {A : Type 0} (code : Code) (ty a b c : Ty) (args : Trees) → IsTrue (well_typed_ternary code ty a b c) → IsBuilt p (node code ty args) → A
   ternary_apart Cond ty a b c args typed h = absurd_typed h.0
   ternary_apart _ ty a b c args typed h = absurd_typed typed
-
-one_value : (code : Code) (ty : Ty) (o : Option Word) (x : Word) → operation_on code ty (with_value o (Some [])) ≡ Some x → (a : Word) × (o ≡ Some a) × (unary_value code ty a ≡ Some x)
-unfolding operation_value
-one_value code ty None x e = cc
-one_value code ty (Some a) x e = (a, refl, e)
-
-two_values : (code : Code) (ty : Ty) (o p : Option Word) (x : Word) → operation_on code ty (with_value o (with_value p (Some []))) ≡ Some x
-    → (a : Word) × (b : Word) × (o ≡ Some a) × (p ≡ Some b) × (binary_value code ty a b ≡ Some x)
-unfolding operation_value
-two_values code ty None p x e = cc
-two_values code ty (Some a) None x e = cc
-two_values code ty (Some a) (Some b) x e = (a, b, refl, refl, e)
 
 module _ (words : ℕ → Ty → Word) (given : (version : ℕ) (ty : Ty) → IsType ty → ((words version ty).ty ≡ ty) × IsWord (words version ty)) where
   -- their words as numbers, each below 2 to the width

@@ -1,2 +1,4 @@
+pub mod OperandValues
+pub mod RefiningLaws
 pub mod TermLaws
 pub mod TreeLemmas

@@ -8,7 +8,7 @@ use Rattle.pm_wide.specs.Typing.{well_typed_operation}
 use Rattle.pm_wide.proofs.Results.{operation_word}
 use Rattle.pm_term.specs.Trees.{Tree, name, constant, node, Trees, nil, cons, type_of, types_of, names_in, names_of, IsWellTyped, AreWellTyped}
 use Rattle.pm_term.specs.Terms.{operation_on, with_value, term_value, term_values}
-use Rattle.pm_term.specs.Environments.{word_of_name, HasNames, HaveNames}
+use Rattle.pm_term.specs.Environments.{GivesWords, word_of_name, HasNames, HaveNames}
 
 -- ---- values are words
 
@@ -17,9 +17,6 @@ IsOf ty r = (r.ty ≡ ty) × IsWord r
 
 abbrev AreOf : List Ty → List Word → Type 0
 AreOf tys rs = (map (λ (w : Word). w.ty) rs ≡ tys) × All IsWord rs
-
-abbrev GivesWords : (ℕ → Ty → Word) → Type 0
-GivesWords words = (version : ℕ) (ty : Ty) → IsType ty → IsOf ty (words version ty)
 
 node_word : (code : Code) (ty : Ty) (tys : List Ty) (values : Option (List Word)) (r : Word) → IsType ty → IsTrue (well_typed_operation code ty tys)
     → ((rs : List Word) → values ≡ Some rs → AreOf tys rs) → operation_on code ty values ≡ Some r → IsOf ty r

@@ -1,4 +1,5 @@
 pub mod Environments
+pub mod Refines
 pub mod Terms
 pub mod TermTrees
 pub mod TreeCodes

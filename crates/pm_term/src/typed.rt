@@ -112,6 +112,16 @@ impl Typed {
         })
     }
 
+    /// The typed term of a well-typed one, as a copy that shares nothing with it.
+    pub fn of(alloc: Global, term: &Term) -> Result<Typed, OutOfMemory>
+        requires { IsWellTyped (tree_of term.now) }
+        ensures { IfOk result (λ t. t ≡ tree_of term.now) }
+    {
+        Ok(Typed {
+            term: term.copy(alloc)?,
+        })
+    }
+
     /// Whether two terms are one and the same: equal codes, types, versions and words everywhere.
     #[tactic(auto, using(crate::specs::TreeCodes::tree_of_injective))]
     pub fn same(&self, other: &Typed) -> bool

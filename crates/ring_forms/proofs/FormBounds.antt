@@ -1,5 +1,5 @@
 -- Which numbers stand in forms, and that they alone decide their values.
-use Rattle.std.proofs.Common.{◌≡◌, ℕ, ◌≤◌, ◌<◌, ◌==◌, ◌^◌, Bool, true, false, cond, Option, Some, None, List, [], ◌∷◌, refl, ap, arith}
+use Rattle.std.proofs.Common.{◌≡◌, ℕ, ◌≤◌, ◌<◌, ◌==◌, ◌^◌, Bool, true, false, cond, List, [], ◌∷◌, refl, ap, arith}
 use Rattle.std.specs.Prelude.{ℤ, pos, negsuc, ◌+ℤ◌, ◌*ℤ◌, nat_le, ⊤, map}
 use Rattle.std.specs.Cmp.Lexicographic.{slice_cmp}
 use Rattle.std.specs.Ordering.{nat_cmp}
@@ -15,7 +15,8 @@ use Rattle.ring_forms.specs.declared.atom.Atom.TheVariants.{Name, Operation}
 use Rattle.ring_forms.specs.declared.atom.AtomOperand.{AtomOperand}
 use Rattle.ring_forms.specs.declared.form.Part.{Part}
 use Rattle.ring_forms.specs.Forms.{part_of, placed, with_part, with_product, constant_form, sum_form, negated_form, with_atom, joined_atoms, part_times, form_times}
-use Rattle.ring_forms.specs.RingForms.{unary_form, binary_form}
+use Rattle.ring_forms.specs.PolynomialValues.{value_or_zero}
+use Rattle.ring_forms.specs.TableForms.{unary_form, binary_form}
 use Rattle.ring_forms.proofs.FormValues.{atoms_value, form_value}
 
 -- ---- numbers below n
@@ -120,10 +121,6 @@ module _ (n m : ℕ) where
 
 abbrev pub operand_words : (ℕ → ℤ) → List AtomOperand → List Word
 operand_words v operands = map (λ o. word o.ty (form_value v o.form)) operands
-
-abbrev pub value_or_zero : Option Word → ℤ
-value_or_zero None = pos 0
-value_or_zero (Some w) = value w
 
 -- the value of an atom on the words of its operands' forms, or 0 where it has none
 abbrev pub atom_value : (ℕ → Ty → Word) → (ℕ → ℤ) → Atom → ℤ

@@ -18,6 +18,7 @@ use Rattle.pm_wide.proofs.Values.{exact_congruent, converted_congruent, compleme
 use Rattle.pm_wide.proofs.Words.{same_word, word-value, value_congruent}
 use Rattle.pm_term.specs.Terms.{operation_on, with_value, term_value, term_values}
 use Rattle.pm_term.specs.Trees.{Tree, name, constant, node, Trees, nil, cons, type_of, IsWellTyped, AreWellTyped}
+use Rattle.pm_term.proofs.OperandValues.{one_value, two_values}
 use Rattle.pm_term.proofs.TermLaws.{values_are_words}
 use Rattle.ring_forms.specs.declared.atom.Atom.{Atom}
 use Rattle.ring_forms.specs.declared.atom.Atom.TheVariants.{Name, Operation}
@@ -25,9 +26,12 @@ use Rattle.ring_forms.specs.declared.atom.AtomOperand.{AtomOperand}
 use Rattle.ring_forms.specs.declared.form.Part.{Part}
 use Rattle.ring_forms.specs.Atoms.{atom_number, with_new_atom}
 use Rattle.ring_forms.specs.Forms.{constant_form, atom_form, negated_form, product_form, within_limits}
-use Rattle.ring_forms.specs.RingForms.{constant_places, small_constant, goes_by_parts, unary_form, binary_form, limited, combined, atomic, put_first, and_forms, and_operands, ring_form, operand_forms, HaveOneForm, AreRingEqual}
-use Rattle.ring_forms.proofs.FormBounds.{FormBelow, OperandsBelow, AtomBelow, more_form, constant_below, unary_below, binary_below, operand_words, value_or_zero, atom_value}
-use Rattle.ring_forms.proofs.FormValues.{form_value, equal_congruent, constant_value, atom_value_is, sum_value, negated_value, product_value}
+use Rattle.ring_forms.specs.PolynomialValues.{value_or_zero}
+use Rattle.ring_forms.specs.RingForms.{constant_places, small_constant, goes_by_parts}
+use Rattle.ring_forms.specs.TableForms.{unary_form, binary_form, limited, combined, atomic, put_first, and_forms, and_operands, ring_form, operand_forms, HaveOneForm, AreEqualOverTable}
+use Rattle.ring_forms.proofs.FormBounds.{FormBelow, OperandsBelow, AtomBelow, more_form, constant_below, unary_below, binary_below, operand_words, atom_value}
+use Rattle.ring_forms.proofs.FormTotals.{equal_congruent, sum_total, negated_total}
+use Rattle.ring_forms.proofs.FormValues.{atoms_value, form_value, constant_value, atom_value_is, product_value}
 use Rattle.ring_forms.proofs.Tables.{OrderedFrom, ConsistentFrom, number_below, new_longer, new_ordered, older, newest, at, values_from, consistent}
 
 abbrev Read : Type 0
@@ -63,20 +67,20 @@ small_value t n k h = by t.unsigned refl
 
 module _ (words : ℕ → Ty → Word) (given : (version : ℕ) (ty : Ty) → IsType ty → ((words version ty).ty ≡ ty) × IsWord (words version ty)) where
   -- what a form of a term says: it goes by the table that it leaves, and is congruent to the value
-  record FormOf (m : ℕ) (table : List Atom) (t : Tree) (r : List Part × List Atom) : Type 0 where
-    longer : length table ≤ length r.1
-    earlier : (v : ℕ → ℤ) → ConsistentFrom words v 0 r.1 → ConsistentFrom words v 0 table
-    ordered : OrderedFrom 0 table → OrderedFrom 0 r.1
-    below : FormBelow (length r.1) r.0
-    means : m ≤ (type_of t).width → (v : ℕ → ℤ) → ConsistentFrom words v 0 r.1 → (w : Word) → term_value words t ≡ Some w → Congruent m (value w) (form_value v r.0)
+  pub record FormOf (m : ℕ) (table : List Atom) (t : Tree) (r : List Part × List Atom) : Type 0 where
+    pub longer : length table ≤ length r.1
+    pub earlier : (v : ℕ → ℤ) → ConsistentFrom words v 0 r.1 → ConsistentFrom words v 0 table
+    pub ordered : OrderedFrom 0 table → OrderedFrom 0 r.1
+    pub below : FormBelow (length r.1) r.0
+    pub means : m ≤ (type_of t).width → (v : ℕ → ℤ) → ConsistentFrom words v 0 r.1 → (w : Word) → term_value words t ≡ Some w → Congruent m (value w) (form_value v r.0)
 
   -- the same of an atom's operands: their forms give their words
-  record OperandsOf (table : List Atom) (ts : Trees) (r : List AtomOperand × List Atom) : Type 0 where
-    longer : length table ≤ length r.1
-    earlier : (v : ℕ → ℤ) → ConsistentFrom words v 0 r.1 → ConsistentFrom words v 0 table
-    ordered : OrderedFrom 0 table → OrderedFrom 0 r.1
-    below : OperandsBelow (length r.1) r.0
-    means : (v : ℕ → ℤ) → ConsistentFrom words v 0 r.1 → (ws : List Word) → term_values words ts ≡ Some ws → operand_words v r.0 ≡ ws
+  pub record OperandsOf (table : List Atom) (ts : Trees) (r : List AtomOperand × List Atom) : Type 0 where
+    pub longer : length table ≤ length r.1
+    pub earlier : (v : ℕ → ℤ) → ConsistentFrom words v 0 r.1 → ConsistentFrom words v 0 table
+    pub ordered : OrderedFrom 0 table → OrderedFrom 0 r.1
+    pub below : OperandsBelow (length r.1) r.0
+    pub means : (v : ℕ → ℤ) → ConsistentFrom words v 0 r.1 → (ws : List Word) → term_values words ts ≡ Some ws → operand_words v r.0 ≡ ws
 
   -- ---- atoms
 
@@ -121,15 +125,15 @@ module _ (words : ℕ → Ty → Word) (given : (version : ℕ) (ty : Ty) → Is
         let is = same_type_is (type_of t) ty typed in
         let part = h (subst (λ (s : Ty). m ≤ s.width) (sym is) le) in
         joined m _ (neg_ℤ (value a)) _ (down (value x) (neg_ℤ (value a)) (exact_congruent ty (neg_ℤ (value a)) x e))
-        (joined m _ (neg_ℤ (form_value v f)) _ (negatives m _ _ part) (turned m _ _ (negated_value v m f)))
+        (joined m _ (neg_ℤ (form_value v f)) _ (negatives m _ _ part) (turned m _ _ (negated_total (atoms_value v) m f)))
     unary_means BitNot t a x f g typed p h e =
         let is = same_type_is (type_of t) ty typed in
         let part = h (subst (λ (s : Ty). m ≤ s.width) (sym is) le) in
         joined m _ (negsuc 0 -ℤ value a) _ (down (value x) (negsuc 0 -ℤ value a) (complement_congruent ty a x p.1 (p.0 ∙ is) e))
         (joined m _ (negsuc 0 +ℤ neg_ℤ (form_value v f)) _ (sums m _ _ _ _ (same m (negsuc 0)) (negatives m _ _ part))
         (joined m _ (form_value v (constant_form m (negsuc 0)) +ℤ form_value v (negated_form m f)) _
-        (sums m _ _ _ _ (turned m _ _ (constant_value v m (negsuc 0))) (turned m _ _ (negated_value v m f)))
-        (turned m _ _ (sum_value v m (constant_form m (negsuc 0)) (negated_form m f)))))
+        (sums m _ _ _ _ (turned m _ _ (constant_value v m (negsuc 0))) (turned m _ _ (negated_total (atoms_value v) m f)))
+        (turned m _ _ (sum_total (atoms_value v) m (constant_form m (negsuc 0)) (negated_form m f)))))
     unary_means _ t a x f g typed p h e = cc
 
     binary_means : (code : Code) (t u : Tree) (places : ℕ) (a b x : Word) (f g : List Part) → goes_by_parts m code ty (cons t (cons u nil)) ≡ true
@@ -144,15 +148,15 @@ module _ (words : ℕ → Ty → Word) (given : (version : ℕ) (ty : Ty) → Is
         let p = h (subst (λ (s : Ty). m ≤ s.width) (sym (same_type_is (type_of t) ty both.0)) le) in
         let q = i (subst (λ (s : Ty). m ≤ s.width) (sym (same_type_is (type_of u) ty both.1)) le) in
         joined m _ (value a +ℤ value b) _ (down (value x) (value a +ℤ value b) (exact_congruent ty (value a +ℤ value b) x e))
-        (joined m _ (form_value v f +ℤ form_value v g) _ (sums m _ _ _ _ p q) (turned m _ _ (sum_value v m f g)))
+        (joined m _ (form_value v f +ℤ form_value v g) _ (sums m _ _ _ _ p q) (turned m _ _ (sum_total (atoms_value v) m f g)))
     binary_means Minus t u places a b x f g parts typed h i shift e =
         let both = and_parts (same_type (type_of t) ty) (same_type (type_of u) ty) typed in
         let p = h (subst (λ (s : Ty). m ≤ s.width) (sym (same_type_is (type_of t) ty both.0)) le) in
         let q = i (subst (λ (s : Ty). m ≤ s.width) (sym (same_type_is (type_of u) ty both.1)) le) in
         joined m _ (value a -ℤ value b) _ (down (value x) (value a -ℤ value b) (exact_congruent ty (value a -ℤ value b) x e))
         (joined m _ (form_value v f -ℤ form_value v g) _ (differences m _ _ _ _ p q)
-        (joined m _ (form_value v f +ℤ form_value v (negated_form m g)) _ (sums m _ _ _ _ (same m (form_value v f)) (turned m _ _ (negated_value v m g)))
-        (turned m _ _ (sum_value v m f (negated_form m g)))))
+        (joined m _ (form_value v f +ℤ form_value v (negated_form m g)) _ (sums m _ _ _ _ (same m (form_value v f)) (turned m _ _ (negated_total (atoms_value v) m g)))
+        (turned m _ _ (sum_total (atoms_value v) m f (negated_form m g)))))
     binary_means Mult t u places a b x f g parts typed h i shift e =
         let both = and_parts (same_type (type_of t) ty) (same_type (type_of u) ty) typed in
         let p = h (subst (λ (s : Ty). m ≤ s.width) (sym (same_type_is (type_of t) ty both.0)) le) in
@@ -183,18 +187,6 @@ module _ (words : ℕ → Ty → Word) (given : (version : ℕ) (ty : Ty) → Is
         by false small p = cc
 
   -- ---- values of operations
-
-  one_value : (code : Code) (ty : Ty) (o : Option Word) (x : Word) → operation_on code ty (with_value o (Some [])) ≡ Some x → (a : Word) × (o ≡ Some a) × (unary_value code ty a ≡ Some x)
-  unfolding operation_value
-  one_value code ty None x e = cc
-  one_value code ty (Some a) x e = (a, refl, e)
-
-  two_values : (code : Code) (ty : Ty) (o p : Option Word) (x : Word) → operation_on code ty (with_value o (with_value p (Some []))) ≡ Some x
-      → (a : Word) × (b : Word) × (o ≡ Some a) × (p ≡ Some b) × (binary_value code ty a b ≡ Some x)
-  unfolding operation_value
-  two_values code ty None p x e = cc
-  two_values code ty (Some a) None x e = cc
-  two_values code ty (Some a) (Some b) x e = (a, b, refl, refl, e)
 
   atomic_value : (code : Code) (ty : Ty) (os : List AtomOperand) (v : ℕ → ℤ) (vals : Option (List Word)) → ((ws : List Word) → vals ≡ Some ws → operand_words v os ≡ ws)
       → (w : Word) → operation_on code ty vals ≡ Some w → atom_value words v (Operation code ty os) ≡ value w
@@ -333,7 +325,7 @@ module _ (words : ℕ → Ty → Word) (given : (version : ℕ) (ty : Ty) → Is
         (atomic_law m table code ty (cons t (cons u (cons s nil))) (operand_forms (cons t (cons u (cons s nil))) table) (operands_law (cons t (cons u (cons s nil))) w.2 table))
     ring_law (node code ty (cons t (cons u (cons s (cons r rs))))) w m table = absurd_typed w.1
 
-    operands_law : (ts : Trees) → AreWellTyped ts → (table : List Atom) → IfSome (operand_forms ts table) (OperandsOf table ts)
+    pub operands_law : (ts : Trees) → AreWellTyped ts → (table : List Atom) → IfSome (operand_forms ts table) (OperandsOf table ts)
     operands_law nil w table = record {
       longer = le_self (length table);
       earlier = λ v c. c;
@@ -363,7 +355,7 @@ module _ (words : ℕ → Ty → Word) (given : (version : ℕ) (ty : Ty) → Is
       sym (word_back (type_of left) r (form_value v f.0) tr.0 tr.1 p)
       ∙ (λ i. word (same_type_of i) (form_value v f.0)) ∙ word_back (type_of right) s (form_value v f.0) ts.0 ts.1 q
 
-  pub one_word : (left right : Tree) (r s : Word) → IsWellTyped left → IsWellTyped right → AreRingEqual left right → term_value words left ≡ Some r → term_value words right ≡ Some s → r ≡ s
+  pub one_word : (left right : Tree) (r s : Word) → IsWellTyped left → IsWellTyped right → AreEqualOverTable left right → term_value words left ≡ Some r → term_value words right ≡ Some s → r ≡ s
   one_word left right r s wl wr one el er =
       one_of left right r s wl wr one.0 el er (ring_form (type_of left).width left []) (ring_law left wl (type_of left).width []) (ring_form (type_of right).width right)
       (λ table. ring_law right wr (type_of right).width table) one.1

@@ -4,7 +4,7 @@ use Rattle.std.proofs.lemmas.List.{get_or_append_left}
 use Rattle.std.specs.Prelude.{ℤ, pos, ⊤}
 use Rattle.pm_wide.specs.Types.{Ty, Word}
 use Rattle.ring_forms.specs.declared.atom.Atom.{Atom}
-use Rattle.ring_forms.specs.Atoms.{same_atom, atom_number, with_new_atom}
+use Rattle.ring_forms.specs.Atoms.{same_entry, atom_number, with_new_atom}
 use Rattle.ring_forms.proofs.AtomLemmas.{atom_decides}
 use Rattle.ring_forms.proofs.FormBounds.{AtomBelow, atom_value, atom_agrees}
 
@@ -20,7 +20,7 @@ ConsistentFrom words v n (a ∷ rest) = (v n ≡ atom_value words v a) × Consis
 
 pub number_below : (table : List Atom) (a : Atom) → atom_number table a < length (with_new_atom table a)
 number_below [] a = omega arith
-number_below (b ∷ bs) a = by (same_atom b a) (number_below bs a)
+number_below (b ∷ bs) a = by (same_entry b a) (number_below bs a)
   where
     by : (t : Bool) → atom_number bs a < length (with_new_atom bs a) → cond t 0 (suc (atom_number bs a)) < length (cond t (b ∷ bs) (b ∷ with_new_atom bs a))
     by true later = omega arith
@@ -28,7 +28,7 @@ number_below (b ∷ bs) a = by (same_atom b a) (number_below bs a)
 
 pub new_longer : (table : List Atom) (a : Atom) → length table ≤ length (with_new_atom table a)
 new_longer [] a = omega arith
-new_longer (b ∷ bs) a = by (same_atom b a) (new_longer bs a)
+new_longer (b ∷ bs) a = by (same_entry b a) (new_longer bs a)
   where
     by : (t : Bool) → length bs ≤ length (with_new_atom bs a) → suc (length bs) ≤ length (cond t (b ∷ bs) (b ∷ with_new_atom bs a))
     by true later = omega arith
@@ -36,7 +36,7 @@ new_longer (b ∷ bs) a = by (same_atom b a) (new_longer bs a)
 
 pub new_ordered : (n k : ℕ) (table : List Atom) (a : Atom) → k ≡ n + length table → OrderedFrom n table → AtomBelow k a → OrderedFrom n (with_new_atom table a)
 new_ordered n k [] a e h g = (let f : k ≡ n = omega arith in subst (λ i. AtomBelow i a) f g, tt)
-new_ordered n k (b ∷ bs) a e h g = by (same_atom b a) (new_ordered (suc n) k bs a (omega arith) h.1 g)
+new_ordered n k (b ∷ bs) a e h g = by (same_entry b a) (new_ordered (suc n) k bs a (omega arith) h.1 g)
   where
     by : (t : Bool) → OrderedFrom (suc n) (with_new_atom bs a) → OrderedFrom n (cond t (b ∷ bs) (b ∷ with_new_atom bs a))
     by true later = h
@@ -45,7 +45,7 @@ new_ordered n k (b ∷ bs) a e h g = by (same_atom b a) (new_ordered (suc n) k b
 module _ (words : ℕ → Ty → Word) (v : ℕ → ℤ) where
   pub older : (n : ℕ) (table : List Atom) (a : Atom) → ConsistentFrom words v n (with_new_atom table a) → ConsistentFrom words v n table
   older n [] a h = tt
-  older n (b ∷ bs) a h = by (same_atom b a) h (older (suc n) bs a)
+  older n (b ∷ bs) a h = by (same_entry b a) h (older (suc n) bs a)
     where
       by : (t : Bool) → ConsistentFrom words v n (cond t (b ∷ bs) (b ∷ with_new_atom bs a)) → (ConsistentFrom words v (suc n) (with_new_atom bs a) → ConsistentFrom words v (suc n) bs) → ConsistentFrom words v n (b ∷ bs)
       by true g later = g
@@ -53,9 +53,9 @@ module _ (words : ℕ → Ty → Word) (v : ℕ → ℤ) where
 
   pub newest : (n : ℕ) (table : List Atom) (a : Atom) → ConsistentFrom words v n (with_new_atom table a) → v (n + atom_number table a) ≡ atom_value words v a
   newest n [] a h = let e : n + 0 ≡ n = omega arith in ap v e ∙ h.0
-  newest n (b ∷ bs) a h = by (same_atom b a) refl h (newest (suc n) bs a)
+  newest n (b ∷ bs) a h = by (same_entry b a) refl h (newest (suc n) bs a)
     where
-      by : (t : Bool) → same_atom b a ≡ t → ConsistentFrom words v n (cond t (b ∷ bs) (b ∷ with_new_atom bs a))
+      by : (t : Bool) → same_entry b a ≡ t → ConsistentFrom words v n (cond t (b ∷ bs) (b ∷ with_new_atom bs a))
           → (ConsistentFrom words v (suc n) (with_new_atom bs a) → v (suc n + atom_number bs a) ≡ atom_value words v a) → v (n + cond t 0 (suc (atom_number bs a))) ≡ atom_value words v a
       by true e g later = let f : n + 0 ≡ n = omega arith in ap v f ∙ g.0 ∙ ap (atom_value words v) ((atom_decides b a).0 e)
       by false e g later = let f : n + suc (atom_number bs a) ≡ suc n + atom_number bs a = omega arith in ap v f ∙ later g.1

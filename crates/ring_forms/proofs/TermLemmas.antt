@@ -4,7 +4,8 @@ use Rattle.std.specs.Prelude.{Option, Some, None}
 use Rattle.pm_wide.specs.Types.{Ty}
 use Rattle.pm_term.specs.TermTrees.{trees_of}
 use Rattle.pm_term.specs.declared.term.Term.{Term}
-use Rattle.ring_forms.specs.RingForms.{has_bits, constant_places, put_first}
+use Rattle.ring_forms.specs.RingForms.{has_bits, constant_places}
+use Rattle.ring_forms.specs.TableForms.{put_first}
 use Rattle.ring_forms.specs.declared.atom.Atom.{Atom}
 use Rattle.ring_forms.specs.Places.{prepended}
 

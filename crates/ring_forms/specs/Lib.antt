@@ -1,4 +1,10 @@
 pub mod Atoms
+pub mod ExactForms
+pub mod ExactTables
 pub mod Forms
 pub mod Places
+pub mod Polynomials
+pub mod PolynomialValues
 pub mod RingForms
+pub mod Sums
+pub mod TableForms

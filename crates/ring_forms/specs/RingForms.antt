@@ -1,15 +1,14 @@
--- The ring form of a term modulo 2 ^ m.
-use Rattle.std.specs.Prelude.{ℕ, ◌≡◌, ◌^◌, nat_lt, nat_le, Bool, true, false, if◌then◌else◌, Option, Some, None, List, [], ◌∷◌, pos, negsuc, is_some, unwrap_or}
+-- The ring form of a term modulo 2 ^ m: a map from products of atoms to coefficients.
+use Rattle.std.specs.Prelude.{ℕ, zero, suc, ◌≡◌, ◌^◌, ◌+◌, ◌==◌, nat_lt, nat_le, bytes_eq, Bool, true, false, not, ◌&&◌, if◌then◌else◌, Option, Some, None, List, [], ◌∷◌, ◌++◌, length, map, pos, negsuc, is_some, unwrap_or, IsTrue}
+use Rattle.std.specs.List.{list_all, filter}
+use Rattle.std.specs.Set.{distinct_count}
 use Rattle.pm_ops.specs.declared.code.Code.{Code}
 use Rattle.pm_ops.specs.declared.code.Code.TheVariants.{Convert, Plus, Minus, Mult, Negate, BitNot, Lshift}
-use Rattle.pm_wide.specs.Types.{Ty}
-use Rattle.pm_term.specs.Trees.{Tree, name, constant, node, Trees, nil, cons, type_of}
-use Rattle.ring_forms.specs.declared.form.Part.{Part}
-use Rattle.ring_forms.specs.declared.atom.Atom.{Atom}
-use Rattle.ring_forms.specs.declared.atom.Atom.TheVariants.{Name, Operation}
-use Rattle.ring_forms.specs.declared.atom.AtomOperand.{AtomOperand}
-use Rattle.ring_forms.specs.Atoms.{atom_number, with_new_atom}
-use Rattle.ring_forms.specs.Forms.{constant_form, atom_form, sum_form, negated_form, product_form, within_limits}
+use Rattle.pm_ops.specs.Names.{code_name}
+use Rattle.pm_wide.specs.Residues.{residue}
+use Rattle.pm_wide.specs.Types.{Ty, same_type}
+use Rattle.pm_term.specs.Trees.{Tree, name, constant, node, Trees, nil, cons, type_of, operations}
+use Rattle.ring_forms.specs.Sums.{Sum, same_product, coefficient, negated, scaled, product}
 
 -- a constant whose word is below a width: such a word is its own value
 abbrev pub small_constant : ℕ → Tree → Option ℕ
@@ -37,82 +36,108 @@ goes_by_parts m Convert ty args = has_bits m args
 goes_by_parts m Lshift ty args = is_some (constant_places ty args)
 goes_by_parts m _ ty args = false
 
--- the form of an operation of the forms of its operands, before limits: `~x` is `-1 - x`, and a
--- shift by a constant a product
-abbrev pub unary_form : ℕ → Code → List Part → List Part
-unary_form m Negate f = negated_form m f
-unary_form m BitNot f = sum_form m (constant_form m (negsuc 0)) (negated_form m f)
-unary_form m _ f = f
+-- an operation on sums: `~x` is `-1 - x`, and a shift by a constant a product
+abbrev pub unary_sum : Code → Sum Tree → Sum Tree
+unary_sum Negate f = negated f
+unary_sum BitNot f = (negsuc 0, []) ∷ negated f
+unary_sum _ f = f
 
-abbrev pub binary_form : ℕ → Code → ℕ → List Part → List Part → List Part
-binary_form m Minus places f g = sum_form m f (negated_form m g)
-binary_form m Mult places f g = product_form m f g
-binary_form m Lshift places f g = product_form m f (constant_form m (pos (2 ^ places)))
-binary_form m _ places f g = sum_form m f g
+abbrev pub binary_sum : Code → ℕ → Sum Tree → Sum Tree → Sum Tree
+binary_sum Minus places f g = f ++ negated g
+binary_sum Mult places f g = product f g
+binary_sum Lshift places f g = scaled (pos (2 ^ places)) f
+binary_sum _ places f g = f ++ g
 
-abbrev pub combined_form : ℕ → Code → ℕ → List (List Part) → List Part
-combined_form m code places (f ∷ []) = unary_form m code f
-combined_form m code places (f ∷ g ∷ []) = binary_form m code places f g
-combined_form m code places _ = []
+abbrev pub combined_sum : Code → ℕ → List (Sum Tree) → Sum Tree
+combined_sum code places (f ∷ []) = unary_sum code f
+combined_sum code places (f ∷ g ∷ []) = binary_sum code places f g
+combined_sum code places _ = []
 
--- a form within the limits, with the table
-abbrev pub limited : List Part → List Atom → Option (List Part × List Atom)
-limited f table = if within_limits f then Some (f, table) else None
-
-abbrev pub combined : ℕ → Code → ℕ → Option (List (List Part) × List Atom) → Option (List Part × List Atom)
-combined m code places None = None
-combined m code places (Some r) = limited (combined_form m code places r.0) r.1
-
--- an atom with these operands
-abbrev pub atomic : Code → Ty → Option (List AtomOperand × List Atom) → Option (List Part × List Atom)
-atomic code ty None = None
-atomic code ty (Some r) = Some (atom_form (atom_number r.1 (Operation code ty r.0)), with_new_atom r.1 (Operation code ty r.0))
-
--- what a first reading gave, and then the rest
-abbrev pub put_first : {X : Type 0} → X → Option (List X × List Atom) → Option (List X × List Atom)
-put_first x None = None
-put_first x (Some r) = Some (x ∷ r.0, r.1)
-
-abbrev pub and_forms : Option (List Part × List Atom) → (List Atom → Option (List (List Part) × List Atom)) → Option (List (List Part) × List Atom)
-and_forms None rest = None
-and_forms (Some r) rest = put_first r.0 (rest r.1)
-
-abbrev pub and_operands : Ty → Option (List Part × List Atom) → (List Atom → Option (List AtomOperand × List Atom)) → Option (List AtomOperand × List Atom)
-and_operands ty None rest = None
-and_operands ty (Some r) rest = put_first (record { ty = ty; form = r.0 }) (rest r.1)
+abbrev pub atom : Tree → Sum Tree
+atom t = (pos 1, t ∷ []) ∷ []
 
 abbrev mutual
-  -- the form of a term modulo 2 ^ m, over the atoms of a table and those that it adds; none where the
-  -- form of any part, also of an atom's operand at its full width, is past the limits; a constant
-  -- goes by its word
-  pub ring_form : ℕ → Tree → List Atom → Option (List Part × List Atom)
-  ring_form m (name version ty) table = Some (atom_form (atom_number table (Name version ty)), with_new_atom table (Name version ty))
-  ring_form m (constant word) table = Some (constant_form m (pos word.bits), table)
-  ring_form m (node code ty args) table =
-      if goes_by_parts m code ty args
-      then combined m code (unwrap_or (constant_places ty args) 0) (ring_forms m args table)
-      else atomic code ty (operand_forms args table)
+  -- a term multiplied out: names, and operations that don't go by parts, are atoms; a constant goes
+  -- by its word, which is its value modulo 2 ^ m
+  pub expanded : ℕ → Tree → Sum Tree
+  expanded m (name version ty) = atom (name version ty)
+  expanded m (constant word) = (pos word.bits, []) ∷ []
+  expanded m (node code ty args) =
+      if goes_by_parts m code ty args then combined_sum code (unwrap_or (constant_places ty args) 0) (all_expanded m args) else atom (node code ty args)
 
-  -- the forms of terms modulo 2 ^ m
-  pub ring_forms : ℕ → Trees → List Atom → Option (List (List Part) × List Atom)
-  ring_forms m nil table = Some ([], table)
-  ring_forms m (cons t ts) table = and_forms (ring_form m t table) (ring_forms m ts)
+  pub all_expanded : ℕ → Trees → List (Sum Tree)
+  all_expanded m nil = []
+  all_expanded m (cons t ts) = expanded m t ∷ all_expanded m ts
 
-  -- their types and forms at full width
-  pub operand_forms : Trees → List Atom → Option (List AtomOperand × List Atom)
-  operand_forms nil table = Some ([], table)
-  operand_forms (cons t ts) table = and_operands (type_of t) (ring_form (type_of t).width t table) (operand_forms ts)
+-- ---- forms, where a test tells which atoms are the same
 
--- the form of an operation
-abbrev pub operation_form : ℕ → Code → Ty → Trees → List Atom → Option (List Part × List Atom)
-operation_form m code ty args table = ring_form m (node code ty args) table
+-- the coefficient of a product of atoms modulo 2 ^ m
+abbrev pub form_coefficient : (Tree → Tree → Bool) → ℕ → List Tree → Sum Tree → ℕ
+form_coefficient same m p f = residue m (coefficient same p f)
 
--- one type, and one form at full width where the second term is read over the atoms of the first
-abbrev pub HaveOneForm : Option (List Part × List Atom) → (List Atom → Option (List Part × List Atom)) → Type 0
-HaveOneForm None second = ⊥
-HaveOneForm (Some r) second = (table : List Atom) × (second r.1 ≡ Some (r.0, table))
+-- the products of a sum
+abbrev pub products : Sum Tree → List (List Tree)
+products f = map (λ e. e.1) f
 
+-- two sums are one form: each product has one coefficient in both
+abbrev pub same_form : (Tree → Tree → Bool) → ℕ → Sum Tree → Sum Tree → Bool
+same_form same m f g = list_all (λ p. form_coefficient same m p f == form_coefficient same m p g) (products f ++ products g)
+
+-- the products whose coefficient isn't 0
+abbrev pub monomials : (Tree → Tree → Bool) → ℕ → Sum Tree → List (List Tree)
+monomials same m f = filter (λ p. not (form_coefficient same m p f == 0)) (products f)
+
+-- at most 64 of them, each of at most eight factors
+abbrev pub is_within : (Tree → Tree → Bool) → ℕ → Sum Tree → Bool
+is_within same m f = nat_le (distinct_count (same_product same) (monomials same m f)) 64 && list_all (λ p. nat_le (length p) 8) (monomials same m f)
+
+abbrev mutual
+  -- a term has a form where each of its parts is within the limits, and each operand of an atom has
+  -- a form at its full width
+  pub has_form : (Tree → Tree → Bool) → ℕ → Tree → Bool
+  has_form same m (name version ty) = true
+  has_form same m (constant word) = true
+  has_form same m (node code ty args) =
+      is_within same m (expanded m (node code ty args)) && (if goes_by_parts m code ty args then have_forms same m args else have_full_forms same args)
+
+  pub have_forms : (Tree → Tree → Bool) → ℕ → Trees → Bool
+  have_forms same m nil = true
+  have_forms same m (cons t ts) = has_form same m t && have_forms same m ts
+
+  pub have_full_forms : (Tree → Tree → Bool) → Trees → Bool
+  have_full_forms same nil = true
+  have_full_forms same (cons t ts) = has_form same (type_of t).width t && have_full_forms same ts
+
+-- ---- which atoms are the same
+
+-- operands of one type and one form at full width, in order
+abbrev pub same_operands : (Tree → Tree → Bool) → Trees → Trees → Bool
+same_operands same nil nil = true
+same_operands same (cons t ts) (cons u us) =
+    same_type (type_of t) (type_of u) && same_form same (type_of t).width (expanded (type_of t).width t) (expanded (type_of u).width u) && same_operands same ts us
+same_operands same _ _ = false
+
+-- the same name, or one code and type with the same operands
+abbrev pub same_by : (Tree → Tree → Bool) → Tree → Tree → Bool
+same_by same (name v s) (name w t) = (v == w) && same_type s t
+same_by same (node c s xs) (node d t ys) = bytes_eq (code_name c) (code_name d) && same_type s t && same_operands same xs ys
+same_by same _ _ = false
+
+-- the same atom, where atoms stand in one another at most that deep
+abbrev pub same_atom : ℕ → Tree → Tree → Bool
+same_atom zero a b = false
+same_atom (suc depth) a b = same_by (same_atom depth) a b
+
+-- ---- two terms
+
+-- atoms stand in one another less deep than there are operations
+abbrev pub same_within : Tree → Tree → Tree → Tree → Bool
+same_within left right = same_atom (suc (operations left + operations right))
+
+-- one type, both have a form at full width, and the two forms are one
 abbrev pub AreRingEqual : Tree → Tree → Type 0
 AreRingEqual left right =
     (type_of left ≡ type_of right)
-    × HaveOneForm (ring_form (type_of left).width left []) (ring_form (type_of right).width right)
+    × IsTrue (has_form (same_within left right) (type_of left).width left)
+    × IsTrue (has_form (same_within left right) (type_of right).width right)
+    × IsTrue (same_form (same_within left right) (type_of left).width (expanded (type_of left).width left) (expanded (type_of right).width right))

@@ -1,6 +1,7 @@
 //! Whether two terms have one ring form.
 ghost use Rattle.std.specs.Prelude.{◌≡◌, ◌↔◌, IsTrue, IfOk};
 ghost use Rattle.ring_forms.specs.RingForms.{AreRingEqual};
+ghost use Rattle.ring_forms.specs.TableForms.{AreEqualOverTable};
 
 use crate::atom::is_same_form;
 use crate::ring::form_of;
@@ -10,10 +11,20 @@ use pm_term::Typed;
 use pm_wide::IntType;
 use std::alloc::Global;
 
-/// Whether two terms have one type and one ring form at its width. It is false where a term has no
-/// form.
+/// Whether two terms have one type, and ring forms at its width in which each product of atoms has
+/// one coefficient. It is false where a term has no form.
+#[tactic(auto, using(crate::proofs::SameAtoms::equal_by_forms, crate::proofs::SameAtoms::equal_over_table))]
 pub fn ring_equal(alloc: Global, left: &Typed, right: &Typed) -> Result<bool, OutOfMemory>
     ensures { IfOk result (λ b. IsTrue b ↔ AreRingEqual left.now right.now) }
+{
+    let _left_typed = left.term();
+    let _right_typed = right.term();
+    are_equal_over_table(alloc, left, right)
+}
+
+/// The same, over one table of atoms for both.
+fn are_equal_over_table(alloc: Global, left: &Typed, right: &Typed) -> Result<bool, OutOfMemory>
+    ensures { IfOk result (λ b. IsTrue b ↔ AreEqualOverTable left.now right.now) }
 {
     let ty = left.ty();
     if !is_one_type(ty, right.ty()) {

@@ -1,11 +1,16 @@
-//! Ring forms of terms: sums of products of atoms, modulo a power of two.
+//! Ring forms of terms: sums of products of atoms, modulo a power of two; and exact forms, over
+//! whole numbers.
 #![tactic(auto)]
 
 mod arithmetic;
 mod atom;
 mod equal;
+mod exact;
 mod form;
 pub mod laws;
+mod poly;
 mod ring;
 
 pub use equal::ring_equal;
+pub use exact::exact_form;
+pub use poly::{Atom, Monomial, Poly};

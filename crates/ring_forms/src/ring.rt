@@ -2,7 +2,8 @@
 ghost use Rattle.std.specs.Prelude.{◌≡◌, ◌<◌, IfOk, IfSome, MatchOption, Some, None};
 ghost use Rattle.pm_term.specs.TermTrees.{tree_of, trees_of};
 ghost use Rattle.pm_term.specs.Trees.{type_of};
-ghost use Rattle.ring_forms.specs.RingForms.{goes_by_parts, small_constant, constant_places, has_bits, unary_form, binary_form, combined_form, operation_form, ring_form, ring_forms, operand_forms};
+ghost use Rattle.ring_forms.specs.RingForms.{goes_by_parts, small_constant, constant_places, has_bits};
+ghost use Rattle.ring_forms.specs.TableForms.{unary_form, binary_form, combined_form, operation_form, ring_form, ring_forms, operand_forms};
 
 use crate::arithmetic::{negated, product, sum};
 use crate::atom::{Atom, AtomOperand, numbered};
@@ -100,7 +101,7 @@ fn forms_of(
 
 /// The types of these terms with their forms at full width.
 #[cycle(form)]
-fn operands_of(
+pub(crate) fn operands_of(
     alloc: Global,
     terms: &[Term],
     table: &mut Items<Atom>,
@@ -131,7 +132,7 @@ fn type_of(term: &Term) -> IntType
 }
 
 /// The form of an operation of the forms of its operands.
-fn combined(
+pub(crate) fn combined(
     alloc: Global,
     code: Code,
     places: u8,

@@ -1,7 +1,7 @@
 use Rattle.std.proofs.Common.{◌≡◌, drop}
 use Rattle.pm_term.specs.TermTrees.{trees_of}
 use Rattle.ring_forms.specs.Places.{prepended}
-use Rattle.ring_forms.specs.RingForms.{ring_forms, operand_forms}
+use Rattle.ring_forms.specs.TableForms.{ring_forms, operand_forms}
 use Rattle.ring_forms.proofs.ring.+form.Given as goal
 
 abbrev pub invariant-forms_of-loop-term : goal.invariant-forms_of-loop-term
