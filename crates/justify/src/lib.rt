@@ -1,0 +1,7 @@
+//! Whether a term may stand for another: whether it has the other's value wherever that has one,
+//! and adds no undefined operation.
+#![tactic(auto)]
+
+mod defined;
+mod enumeration;
+mod names;
