@@ -4,4 +4,8 @@
 
 mod defined;
 mod enumeration;
+pub mod laws;
+mod method;
 mod names;
+
+pub use method::{Instance, Method, justify};
