@@ -1,5 +1,5 @@
 -- Words of names by numbers: each choice of words has a number.
-use Rattle.std.proofs.Common.{◌≡◌, ℕ, suc, ◌+◌, ◌*◌, ◌/◌, ◌%◌, ◌^◌, ◌<◌, ◌≤◌, ◌==◌, Bool, true, false, cond, ◌&&◌, ◌||◌, ◌⊎◌, inl, inr, Option, Some, None, List, [], ◌∷◌, ◌++◌, map, arith, refl, sym, ap, subst, ◌∙◌}
+use Rattle.std.proofs.Common.{◌≡◌, ℕ, ◌+◌, ◌*◌, ◌/◌, ◌%◌, ◌^◌, ◌<◌, ◌==◌, Bool, true, false, cond, ◌⊎◌, inl, inr, Some, List, [], ◌∷◌, ◌++◌, map, arith, refl, sym, ap, subst, ◌∙◌}
 use Rattle.std.specs.Prelude.{All, IsSome, unwrap_or}
 use Rattle.std.specs.List.{list_any}
 use Rattle.std.specs.Set.{is_member}
@@ -10,7 +10,7 @@ use Rattle.std.proofs.lemmas.List.Folds.{list_any-append}
 use Rattle.std.proofs.lemmas.Nat.{pow_pos, pow-add, div-mul-add, mod-mul-add}
 use Rattle.pm_wide.specs.Types.{Ty, Word, IsType, IsWord, same_type}
 use Rattle.pm_wide.proofs.Results.{same_type_is}
-use Rattle.pm_term.specs.Environments.{GivesWords, word_of_name, assigned, HasNames}
+use Rattle.pm_term.specs.Environments.{GivesWords, word_of_name, assigned}
 use Rattle.pm_term.specs.Trees.{Tree, name, constant, node, Trees, nil, cons, names_in, names_of, IsWellTyped, AreWellTyped}
 use Rattle.pm_term.proofs.TermLaws.{all}
 use Rattle.bit_tables.specs.TableClass.{same_name}

@@ -1,7 +1,7 @@
 -- What is defined by rule has a value wherever the left side has one.
-use Rattle.std.proofs.Common.{◌≡◌, ℕ, Bool, true, false, ◌⊎◌, inl, inr, Option, Some, None, List, [], ◌∷◌, map, refl, sym, ap, subst, ◌∙◌}
+use Rattle.std.proofs.Common.{◌≡◌, ℕ, inl, inr, Option, Some, None, List, [], ◌∷◌, map, refl, sym, ap, subst, ◌∙◌}
 use Rattle.std.specs.Prelude.{All, IsSome, IsTrue}
-use Rattle.std.proofs.lemmas.List.Elements.{All-nil, All-cons, All-head, All-tail}
+use Rattle.std.proofs.lemmas.List.Elements.{All-nil, All-cons}
 use Rattle.pm_ops.specs.declared.code.Code.{Code}
 use Rattle.pm_wide.specs.Operations.{operation_value}
 use Rattle.pm_wide.specs.Types.{Ty, Word, IsType, IsWord}
@@ -13,7 +13,7 @@ use Rattle.pm_term.specs.Trees.{Tree, name, constant, node, Trees, nil, cons, ty
 use Rattle.pm_term.proofs.TermLaws.{values_are_words}
 use Rattle.ring_forms.proofs.RingLaw.{one_word}
 use Rattle.ring_forms.proofs.SameAtoms.{equal_over_table}
-use Rattle.justify.specs.DefinedByRule.{always_has_value, constant_of, second_constant, IsFineConstant, HasNode, HaveNode, AreRingEqualInOrder, IsTwin, HasFineConstant, IsDefinedByRule, IsDefined, AreDefined}
+use Rattle.justify.specs.DefinedByRule.{always_has_value, IsFineConstant, HasNode, HaveNode, AreRingEqualInOrder, IsTwin, HasFineConstant, IsDefinedByRule, IsDefined, AreDefined}
 use Rattle.justify.proofs.OperationValues.{always_some, fine_some}
 
 pub some_value : {X : Type 0} (o : Option X) → IsSome o → (x : X) × (o ≡ Some x)

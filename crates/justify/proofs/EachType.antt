@@ -1,6 +1,6 @@
 -- What holds of the eleven types holds of each type.
-use Rattle.std.proofs.Common.{◌≡◌, ℕ, ◌==◌, Bool, true, false, not, cond, ◌&&◌, ◌||◌, refl, sym, subst, eqb-true, arith}
-use Rattle.pm_wide.specs.Types.{Ty, IsType, is_type, bool_type, signed_char_type, unsigned_char_type, short_type, unsigned_short_type, int_type, unsigned_int_type, long_type, unsigned_long_type, int128_type, unsigned_int128_type}
+use Rattle.std.proofs.Common.{◌≡◌, ℕ, ◌==◌, Bool, true, false, ◌&&◌, ◌||◌, refl, sym, subst, eqb-true}
+use Rattle.pm_wide.specs.Types.{Ty, IsType, bool_type, signed_char_type, unsigned_char_type, short_type, unsigned_short_type, int_type, unsigned_int_type, long_type, unsigned_long_type, int128_type, unsigned_int128_type}
 
 module _ (P : Ty → Type 0) where
   at_width : (t : Ty) (w : ℕ) → (t.width == w) ≡ true → (t.unsigned ≡ true → P (record { width = w; unsigned = true })) → (t.unsigned ≡ false → P (record { width = w; unsigned = false })) → P t

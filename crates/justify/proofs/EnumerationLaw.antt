@@ -1,9 +1,9 @@
 -- To try all numbers of choices is to try all words.
-use Rattle.std.proofs.Common.{◌≡◌, ℕ, ◌^◌, ◌-◌, ◌<◌, ◌≤◌, Bool, true, false, Some, List, refl, sym, ap, subst, ◌∙◌, arith}
+use Rattle.std.proofs.Common.{◌≡◌, ℕ, ◌^◌, ◌-◌, ◌<◌, ◌≤◌, Bool, true, false, List, refl, sym, ap, subst, ◌∙◌, arith}
 use Rattle.std.specs.Bool.{MatchBool}
 use Rattle.std.specs.Prelude.{◌↔◌, min, IsTrue}
-use Rattle.pm_wide.specs.Types.{Ty, Word}
-use Rattle.pm_term.specs.Environments.{GivesWords, assigned}
+use Rattle.pm_wide.specs.Types.{Ty}
+use Rattle.pm_term.specs.Environments.{assigned}
 use Rattle.pm_term.specs.Trees.{Tree, IsWellTyped}
 use Rattle.pm_term.proofs.TermLaws.{names_decide}
 use Rattle.pm_term.proofs.RefiningLaws.{each_node}

@@ -1,5 +1,5 @@
 -- What each method accepts, refines.
-use Rattle.std.proofs.Common.{◌≡◌, ℕ, Option, Some, None, sym, ap, ◌∙◌}
+use Rattle.std.proofs.Common.{◌≡◌, Option, Some, None, sym, ap, ◌∙◌}
 use Rattle.std.specs.Prelude.{IfSome}
 use Rattle.pm_term.specs.Refines.{Refines}
 use Rattle.pm_term.specs.Terms.{term_value}

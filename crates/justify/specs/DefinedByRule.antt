@@ -1,5 +1,5 @@
 -- When each operation of a right side is known to have a value wherever the left side has one.
-use Rattle.std.specs.Prelude.{ℕ, ◌≡◌, ◌==◌, ◌⊎◌, ⊤, IsTrue, Bool, true, false, not, ◌&&◌, Option, Some, None, List, [], ◌∷◌, pos, negsuc}
+use Rattle.std.specs.Prelude.{◌≡◌, ◌==◌, ◌⊎◌, ⊤, IsTrue, Bool, true, false, not, ◌&&◌, Option, Some, None, List, [], ◌∷◌, pos, negsuc}
 use Rattle.pm_ops.specs.declared.code.Code.{Code}
 use Rattle.pm_ops.specs.declared.code.Code.TheVariants.{Plus, Minus, Mult, TruncDiv, TruncMod, Negate, Abs, Lshift, Rshift}
 use Rattle.pm_wide.specs.Operations.{int_same, shifts}

@@ -7,5 +7,7 @@ mod enumeration;
 pub mod laws;
 mod method;
 mod names;
+#[cfg(test)]
+mod tests;
 
 pub use method::{Instance, Method, justify};

@@ -1,7 +1,7 @@
 use Rattle.std.proofs.Common.{◌≡◌, ◌-◌, ◌^◌, sym, subst, ◌∙◌, arith}
 use Rattle.std.specs.Prelude.{min}
 use Rattle.justify.specs.Choices.{AreNamed}
-use Rattle.justify.specs.Enumeration.{names_of_both, bits_of}
+use Rattle.justify.specs.Enumeration.{bits_of}
 use Rattle.justify.proofs.Choosing.{named}
 use Rattle.justify.proofs.EnumerationLaw.{answer}
 use Rattle.justify.proofs.Results.{if_ok}
