@@ -1,5 +1,5 @@
 -- The value of a term of the class, where it has one, is the word that wraps.
-use Rattle.std.proofs.Common.{◌≡◌, ℕ, ◌-◌, ◌%◌, ◌^◌, ◌<◌, true, false, Option, Some, None, [], refl, sym, ap, subst, ◌∙◌, arith}
+use Rattle.std.proofs.Common.{◌≡◌, ℕ, ◌-◌, ◌%◌, ◌^◌, ◌<◌, true, false, Some, sym, ap, subst, ◌∙◌, arith}
 use Rattle.std.specs.Prelude.{ℤ, pos, neg_ℤ, ◌+ℤ◌, ◌-ℤ◌, ◌*ℤ◌, IsTrue, bit_and, bit_or, bit_xor}
 use Rattle.std.specs.Int.{int_rem_euclid}
 use Rattle.std.specs.Int.RustNames.{unsigned_abs}
@@ -9,14 +9,14 @@ use Rattle.std.proofs.lemmas.Nat.{pow_pos}
 use Rattle.pm_ops.specs.declared.code.Code.{Code}
 use Rattle.pm_ops.specs.declared.code.Code.TheVariants.{Convert, Plus, Minus, Mult, Negate, BitAnd, BitIor, BitXor, BitNot, Cond}
 use Rattle.pm_wide.specs.Congruence.{Congruent}
-use Rattle.pm_wide.specs.Operations.{operation_value, unary_value, binary_value}
+use Rattle.pm_wide.specs.Operations.{unary_value, binary_value}
 use Rattle.pm_wide.specs.Residues.{residue}
 use Rattle.pm_wide.specs.Types.{Ty, Word, IsType, IsWord, value, word, word_of}
 use Rattle.pm_wide.specs.Typing.{well_typed_operation, well_typed_unary, well_typed_ternary}
 use Rattle.pm_wide.proofs.Congruence.{same, sums, differences, products}
 use Rattle.pm_wide.proofs.Values.{exact_cases}
 use Rattle.pm_wide.proofs.Words.{same_word, value_congruent}
-use Rattle.pm_term.specs.Terms.{operation_on, with_value, term_value}
+use Rattle.pm_term.specs.Terms.{term_value}
 use Rattle.pm_term.specs.Trees.{Tree, name, constant, node, Trees, nil, cons, type_of, IsWellTyped}
 use Rattle.pm_term.proofs.OperandValues.{one_value, two_values}
 use Rattle.pm_term.proofs.TermLaws.{values_are_words}

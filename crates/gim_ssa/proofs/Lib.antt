@@ -1,6 +1,4 @@
 pub mod AmongLemmas
-pub mod AssignedFirst
-pub mod AssignedOnce
 pub mod CheckLemmas
 pub mod ExampleLemmas
 pub mod FlowMarks

@@ -1,4 +1,3 @@
-pub mod Assigned
 pub mod Checking
 pub mod Circles
 pub mod Examples

@@ -4,15 +4,7 @@ ghost use Rattle.std.specs.Prelude.{◌≡◌, ◌++◌, ◌↔◌, ℕ, Bool, f
 ghost use Rattle.gim_ast.specs.declared.function.Function.{Function};
 ghost use Rattle.gim_ast.specs.Paths.{Stretch, flow_of, stretch_at, Path};
 ghost use Rattle.gim_ast.specs.Readable.{read_for, is_initial, Supports, IsReadable, IsValid, IsFirstUnreadable};
-ghost use Rattle.gim_ast.specs.WellFormed.{IsWellFormed};
-ghost use Rattle.gim_ssa.specs.Assigned.{IsAssigned, AssignsFirst};
 ghost use Rattle.gim_ssa.specs.Marks.{AreMarks, TellsSupport, AllLeadToFresh};
-
-/// In a valid function, where a name is readable each name of its support is.
-pub fn support_of_readable_is_readable()
-    ensures { (f : Function) (x y n : ℕ) (left : List ℕ) → IsValid f → IsReadable f x n left →
-        Supports (read_for f) x y → IsReadable f y n left }
-{}
 
 /// At a point that no path reaches, each name outside its own support is readable.
 pub fn unreached_points_read_all()
@@ -40,17 +32,4 @@ pub fn marks_decide_readability()
         TellsSupport x in_support (read_for f) → AreMarks x in_support (flow_of f) (is_initial f x) marked →
         (n : ℕ) (home : Stretch) (front left : List ℕ) → stretch_at (flow_of f) n ≡ Some home → home.assigns ≡ front ++ left →
         IsReadable f x n left ↔ ((in_support x ≡ false) × AllLeadToFresh x in_support marked n front) }
-{}
-
-/// A well-formed function is valid exactly where each use is of a name that every path to it has
-/// assigned, and no name is in its own support.
-pub fn valid_where_names_are_assigned_first()
-    ensures { (f : Function) → IsWellFormed f → IsValid f ↔ AssignsFirst f }
-{}
-
-/// In such a function a name is readable at a point, reached or not, exactly where every path to it
-/// has assigned the name.
-pub fn readable_where_assigned()
-    ensures { (f : Function) (x n : ℕ) (left : List ℕ) → IsWellFormed f → AssignsFirst f →
-        IsReadable f x n left ↔ IsAssigned f x n left }
 {}

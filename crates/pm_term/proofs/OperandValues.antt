@@ -1,5 +1,5 @@
 -- An operation that has a value has operands that have values.
-use Rattle.std.proofs.Common.{◌≡◌, Option, Some, None, List, [], refl}
+use Rattle.std.proofs.Common.{◌≡◌, Option, Some, None, [], refl}
 use Rattle.pm_ops.specs.declared.code.Code.{Code}
 use Rattle.pm_wide.specs.Operations.{operation_value, unary_value, binary_value}
 use Rattle.pm_wide.specs.Types.{Ty, Word}

@@ -1,5 +1,5 @@
 -- Where a term has a value each node has one; refining is an order.
-use Rattle.std.proofs.Common.{◌≡◌, ℕ, List, [], Option, Some, None, refl, sym, subst, ◌∙◌}
+use Rattle.std.proofs.Common.{◌≡◌, ℕ, List, Option, Some, None, refl, ◌∙◌}
 use Rattle.std.specs.Prelude.{IsSome}
 use Rattle.pm_ops.specs.declared.code.Code.{Code}
 use Rattle.pm_wide.specs.Types.{Ty, Word}

@@ -117,7 +117,7 @@ module _ (t : Tree) (w : IsWellTyped t) where
     entries = signed (in_rank_order f);
     listed = terms_are r.nodes (in_rank_order f) (ranked_all Small f s) ∙ ap (λ nodes. map (term_at nodes) (signed (in_rank_order f))) told.1;
     rising = of_parts (λ (p : Part). Rising p.atoms) (λ e. Rises e.1) (λ p h. h) (in_rank_order f) (ranked_all (λ (p : Part). Rising p.atoms) f (clean_rising f g.clean));
-    above_zero = of_parts (λ (p : Part). whole p.coefficient ≡ pos 0 → ⊥) (λ e. e.0 ≢ pos 0) (λ p h. h) (in_rank_order f) (ranked_all (λ (p : Part). whole p.coefficient ≡ pos 0 → ⊥) f (clean_above f g.clean g.small));
+    nonzero = of_parts (λ (p : Part). whole p.coefficient ≡ pos 0 → ⊥) (λ e. e.0 ≢ pos 0) (λ p h. h) (in_rank_order f) (ranked_all (λ (p : Part). whole p.coefficient ≡ pos 0 → ⊥) f (clean_above f g.clean g.small));
     ordered = in_order 128 f g.clean s;
     coefficients = λ p.
         (coefficient_total p (signed (in_rank_order f))

@@ -143,6 +143,6 @@ pub record IsExactForm (t : Tree) (terms : List (Monomial × ℤ)) : Type 0 wher
   pub entries : Sum ℕ
   pub listed : terms ≡ map (term_at (met_atoms t)) entries
   pub rising : AllByRecursion (λ e. Rises e.1) entries
-  pub above_zero : AllByRecursion (λ e. e.0 ≢ pos 0) entries
+  pub nonzero : AllByRecursion (λ e. e.0 ≢ pos 0) entries
   pub ordered : IsStrictlySortedBy (slice_cmp nat_cmp) (map (λ e. rank e.1) entries)
   pub coefficients : (p : List ℕ) → coefficient (λ a b. a == b) p entries ≡ coefficient (λ a b. a == b) p (by_numbers t)

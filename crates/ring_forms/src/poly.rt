@@ -9,21 +9,22 @@ use pm_term::Typed;
 use std::alloc::Global;
 use std::cmp::Ordering;
 
-/// A name or an operation that no exact form goes into, by its first node.
-#[derive(Debug, PartialEq, Eq, Drop)]
+/// A name or an operation that no exact form goes into, by its first node. Two nodes may be one atom: there is no `==` here,
+/// since a comparison has to go by operands' types and forms.
+#[derive(Debug, Drop)]
 pub struct Atom {
     pub node: Typed,
 }
 
 /// A product of different atoms, each with its power.
-#[derive(Debug, PartialEq, Eq, Drop)]
+#[derive(Debug, Drop)]
 pub struct Monomial {
     pub factors: Items<(Atom, u8)>,
 }
 
 /// A sum of monomials with coefficients other than 0. Monomials rise by degree, and at one degree by
 /// their pairs of an atom's number and its power; atoms are numbered as they are met.
-#[derive(Debug, PartialEq, Eq, Drop)]
+#[derive(Debug, Drop)]
 pub struct Poly {
     pub terms: Items<(Monomial, i64)>,
 }

@@ -1,0 +1,12 @@
+pub mod BranchRuns
+pub mod CopyPhis
+pub mod DroppedRuns
+pub mod FirstCopy
+pub mod FoundBlocks
+pub mod ReachedPaths
+pub mod RunningAlike
+pub mod RunsThroughChanges
+pub mod Sizes
+pub mod TrimmedRuns
+pub mod Turns
+pub mod UnusedNames

@@ -1,0 +1,7 @@
+pub mod Branches
+pub mod Phis
+pub mod Reached
+pub mod Removal
+pub mod SameRuns
+pub mod Search
+pub mod Tidying
