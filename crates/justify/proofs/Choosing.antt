@@ -68,7 +68,7 @@ module _ (n : ℕ × Ty) where
 pub named : (left right : Tree) → AreNamed (names_of_both left right) left right
 named left right = λ choice. (
   all (chosen (names_of_both left right) choice) left (each_of _ (names_in left) (λ n h. has_word n (names_of_both left right) choice (in_left left right n h))),
-  all (chosen (names_of_both left right) choice) right (each_of _ (names_in right) (λ n h. has_word n (names_of_both left right) choice (in_right left right n h)))
+  all (chosen (names_of_both left right) choice) right (each_of _ (names_in right) (λ n h. has_word n (names_of_both left right) choice (in_right left right n h))),
 )
 
 -- ---- words of names of known types

@@ -24,7 +24,10 @@ pub(crate) fn is_defined(alloc: Global, term: &Term, left: &Term) -> Result<bool
         Term::Name(..) | Term::Const(_) => Ok(true),
         Term::Node(code, ty, args) => {
             let args = args.as_slice();
-            Ok(is_defined_by_rule(alloc, left, *code, *ty, args)? && are_defined(alloc, args, left)?)
+            Ok(
+                is_defined_by_rule(alloc, left, *code, *ty, args)?
+                    && are_defined(alloc, args, left)?,
+            )
         }
     }
 }
@@ -56,9 +59,11 @@ fn is_defined_by_rule(
     requires args { AreWellTyped (trees_of args.now) }
     ensures { IfOk result (λ b. IsTrue b ↔ IsDefinedByRule (tree_of left.now) code ty (trees_of args.now)) }
 {
-    Ok(always_has_value(code, ty, args)
-        || has_fine_constant(code, ty, args)
-        || has_twin(alloc, left, code, ty, args)?)
+    Ok(
+        always_has_value(code, ty, args)
+            || has_fine_constant(code, ty, args)
+            || has_twin(alloc, left, code, ty, args)?,
+    )
 }
 
 /// Whether an operation on these terms has a value on all words of their types.
@@ -164,8 +169,7 @@ fn has_twin(
         Term::Name(..) | Term::Const(_) => Ok(false),
         Term::Node(c, t, xs) => {
             let xs = xs.as_slice();
-            Ok(is_twin(alloc, *c, *t, xs, code, ty, args)?
-                || have_twin(alloc, xs, code, ty, args)?)
+            Ok(is_twin(alloc, *c, *t, xs, code, ty, args)? || have_twin(alloc, xs, code, ty, args)?)
         }
     }
 }

@@ -15,7 +15,11 @@ use std::alloc::Global;
 
 /// Whether the names of two terms have at most 12 bits together, and whichever words they have: where
 /// the first term has a value, the second has it too, and so has each of its nodes.
-pub(crate) fn are_enumerated(alloc: Global, left: &Typed, right: &Typed) -> Result<bool, OutOfMemory>
+pub(crate) fn are_enumerated(
+    alloc: Global,
+    left: &Typed,
+    right: &Typed,
+) -> Result<bool, OutOfMemory>
     ensures { IfOk result (λ b. IsTrue b ↔ AreEnumerated left.now right.now) }
 {
     let _left_typed = left.term();
@@ -94,5 +98,9 @@ fn words_of(alloc: Global, names: &[(u32, IntType)], choice: u128) -> Result<Env
 fn without_lowest(number: u128, ty: IntType) -> u128
     ensures { result ≡ number / 2 ^ ty.width }
 {
-    if ty.bits() < 128 { number >> ty.bits() } else { 0 }
+    if ty.bits() < 128 {
+        number >> ty.bits()
+    } else {
+        0
+    }
 }

@@ -18,7 +18,11 @@ pub(crate) type Names = Items<(u32, IntType)>;
 
 /// The names of two terms, each once.
 #[tactic(auto, using(bit_tables::proofs::NameLemmas::with_names_append))]
-pub(crate) fn names_of_both(alloc: Global, left: &Typed, right: &Typed) -> Result<Names, OutOfMemory>
+pub(crate) fn names_of_both(
+    alloc: Global,
+    left: &Typed,
+    right: &Typed,
+) -> Result<Names, OutOfMemory>
     ensures { IfOk result (λ names. names ≡ names_of_both left.now right.now) }
 {
     let mut names = Items::new(alloc);

@@ -143,7 +143,11 @@ fn judge(rt: &impl Abort, alloc: Global, rows: &[Row], ty: IntType) -> Result<()
             left: term(alloc, left, ty)?,
             right: term(alloc, right, ty)?,
         };
-        assert_eq!(rt; justify(alloc, &instance)?, *method, "{left} {right} {ty:?}");
+        assert_eq!(rt;
+            justify(alloc, &instance)?,
+            *method,
+            "{left} {right} {ty:?}"
+        );
     }
     Ok(())
 }

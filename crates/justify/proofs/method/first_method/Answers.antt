@@ -5,8 +5,7 @@ use Rattle.justify.proofs.method.first_method.Goals as goal
 pub returns-then-branch-3 : goal.returns-then-branch-3
 returns-then-branch-3 c =
     let no_sum = c.if-branch.false in
-    let no_bit = c.if-branch-2.false in
-    (
+    let no_bit = c.if-branch-2.false in (
       c.if-not-are_within_limits.ensures.0 refl,
       (λ h. let t : IsTrue c.in_ok-are_equal_as_sums.field-0 = c.in_ok-are_equal_as_sums.ensures.1 h in cc),
       (λ h. let t : IsTrue c.in_ok-are_equal_as_bits.field-0 = c.in_ok-are_equal_as_bits.ensures.1 h in cc),
