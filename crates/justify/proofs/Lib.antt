@@ -1,0 +1,10 @@
+pub mod Choosing
+pub mod DefinedLaw
+pub mod EachType
+pub mod EnumerationLaw
+pub mod FineConstants
+pub mod MethodLaws
+pub mod NodeLemmas
+pub mod OperandLists
+pub mod OperationValues
+pub mod Results

@@ -1,0 +1,4 @@
+pub mod Choices
+pub mod DefinedByRule
+pub mod Enumeration
+pub mod Methods

@@ -1,0 +1,13 @@
+//! Whether a term may stand for another: whether it has the other's value wherever that has one,
+//! and adds no undefined operation.
+#![tactic(auto)]
+
+mod defined;
+mod enumeration;
+pub mod laws;
+mod method;
+mod names;
+#[cfg(test)]
+mod tests;
+
+pub use method::{Instance, Method, justify};
