@@ -14,6 +14,3 @@ mod tidying;
 
 pub use change::{Change, Tidied};
 pub use tidying::tidy;
-
-#[cfg(test)]
-mod tests;

@@ -12,10 +12,6 @@ mod integers;
 mod operators;
 mod pair;
 mod reading;
-#[cfg(test)]
-mod tests;
-#[cfg(test)]
-mod texts;
 mod value;
 mod words;
 

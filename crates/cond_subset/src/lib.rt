@@ -8,8 +8,6 @@ mod operators;
 mod part;
 mod scope;
 mod signatures;
-#[cfg(test)]
-mod tests;
 mod tokens;
 mod tree;
 mod types;

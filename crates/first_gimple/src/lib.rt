@@ -70,5 +70,3 @@ pub fn read(alloc: Global, source: &[u8]) -> Result<Function, FirstFault>
     judged(alloc, &draft)
 }
 
-#[cfg(test)]
-mod tests;

@@ -13,5 +13,3 @@ pub use fault::ReadFault;
 pub use reading::read;
 pub use row::{Row, Side};
 
-#[cfg(test)]
-mod tests;

@@ -39,7 +39,8 @@ use Rattle.first_rewriting.specs.Typed.{block_agrees, row_agrees, keeps_type, is
 use Rattle.first_rewriting.specs.Choices.{kind_at, row_kind, tried, Folds, EachFolds}
 use Rattle.first_rewriting.proofs.Typings.{and_left, and_right, and_both, same_type_is, same_type_refl}
 use Rattle.first_rewriting.proofs.Typings.{rhs_agrees, Agrees, put_kept, rhs_kept, condition_kept, tidied_kept}
-use Rattle.first_rewriting.proofs.ValueTypes.{same_code_is, exchanged_fits, word_type, value_type, side_type, row_type}
+use Rattle.pm_ops.proofs.SameCodes.{same_code_is}
+use Rattle.first_rewriting.proofs.ValueTypes.{exchanged_fits, word_type, value_type, side_type, row_type}
 
 pub some_is : {X : Type 0} (x y : X) → Some x ≡ Some y → x ≡ y
 some_is x y is = cc

@@ -1,11 +1,12 @@
 -- The types of values: what an operation gives, what a row gives, and what exchanged operands may be.
-use Rattle.std.proofs.Common.{◌≡◌, ◌==◌, Bool, true, false, List, [], ◌∷◌, map, Some, None, get_or, refl, ap, sym, ◌∙◌, subst, eqb-true}
+use Rattle.std.proofs.Common.{◌≡◌, ◌==◌, Bool, true, false, List, [], ◌∷◌, map, Some, None, refl, ap, sym, ◌∙◌, subst}
 use Rattle.std.specs.Prelude.{◌&&◌, ◌||◌, not, if◌then◌else◌}
-use Rattle.pm_ops.specs.Codes.{is_commutative_code, is_comparison_code, swapped_code, same_code, code_number}
+use Rattle.pm_ops.specs.Codes.{is_commutative_code, is_comparison_code, swapped_code}
 use Rattle.pm_ops.specs.declared.code.Code.{Code}
 use Rattle.pm_ops.specs.declared.code.Code.TheVariants.{Convert, Plus, Minus, Mult, TruncDiv, TruncMod, Negate, Abs}
 use Rattle.pm_ops.specs.declared.code.Code.TheVariants.{Absu, BitAnd, BitIor, BitXor, BitNot, Lshift, Rshift, Min, Max}
 use Rattle.pm_ops.specs.declared.code.Code.TheVariants.{Eq, Ne, Lt, Le, Gt, Ge, Cond}
+use Rattle.pm_ops.proofs.SameCodes.{same_code_is}
 use Rattle.pm_wide.specs.Types.{Ty, Word, same_type, bool_type}
 use Rattle.pm_wide.specs.Typing.{well_typed_operation, well_typed_unary, well_typed_binary, well_typed_ternary}
 use Rattle.pm_wide.specs.Operations.{operation_value, unary_value, binary_value, ternary_value}
@@ -13,44 +14,6 @@ use Rattle.first_patterns.specs.declared.row.Side.{Side}
 use Rattle.first_patterns.specs.declared.row.Side.TheVariants.{Left, Right}
 use Rattle.first_rewriting.specs.Typed.{is_left, is_shift_code}
 use Rattle.first_rewriting.proofs.Typings.{and_left, and_right, and_both, same_type_is, same_type_refl}
-
--- ---- codes are told apart by their numbers
-
-codes_in_order : List Code
-codes_in_order =
-    Convert ∷ Plus ∷ Minus ∷ Mult ∷ TruncDiv ∷ TruncMod ∷ Negate ∷ Abs ∷ Absu ∷ BitAnd ∷ BitIor ∷ BitXor ∷ BitNot
-    ∷ Lshift ∷ Rshift ∷ Min ∷ Max ∷ Eq ∷ Ne ∷ Lt ∷ Le ∷ Gt ∷ Ge ∷ Cond ∷ []
-
-numbered : (code : Code) → get_or codes_in_order (code_number code) Convert ≡ code
-unfolding codes_in_order
-numbered Convert = refl
-numbered Plus = refl
-numbered Minus = refl
-numbered Mult = refl
-numbered TruncDiv = refl
-numbered TruncMod = refl
-numbered Negate = refl
-numbered Abs = refl
-numbered Absu = refl
-numbered BitAnd = refl
-numbered BitIor = refl
-numbered BitXor = refl
-numbered BitNot = refl
-numbered Lshift = refl
-numbered Rshift = refl
-numbered Min = refl
-numbered Max = refl
-numbered Eq = refl
-numbered Ne = refl
-numbered Lt = refl
-numbered Le = refl
-numbered Gt = refl
-numbered Ge = refl
-numbered Cond = refl
-
-pub same_code_is : (a b : Code) → same_code a b ≡ true → a ≡ b
-same_code_is a b h =
-    sym (numbered a) ∙ (ap (λ n. get_or codes_in_order n Convert) (eqb-true (code_number a) (code_number b) h) ∙ numbered b)
 
 -- ---- exchanged operands
 

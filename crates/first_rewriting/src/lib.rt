@@ -15,6 +15,3 @@ mod step;
 
 pub use firing::{Firing, Site, What};
 pub use rewriting::{Simplified, simplify};
-
-#[cfg(test)]
-mod tests;

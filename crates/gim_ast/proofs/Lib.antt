@@ -1,4 +1,4 @@
-mod AssignedOnce
+pub mod AssignedOnce
 mod BlockParts
 mod BoundParts
 mod DeclarationParts

@@ -14,5 +14,3 @@ pub use function::{Block, Decl, End, Function, NameRow, Phi, Rhs, Stmt};
 pub use operands::Operands;
 pub use rules::{is_anonymous, is_block_word};
 
-#[cfg(test)]
-mod tests;

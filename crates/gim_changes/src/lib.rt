@@ -11,9 +11,6 @@ mod substitution;
 mod trimming;
 
 pub use insertion::{has_place, insert_stmt};
-pub use removal::prune;
+pub use removal::{prune, remove_name};
 pub use substitution::{put_in_all, set_condition, set_rhs};
 pub use trimming::{tidy, trim};
-
-#[cfg(test)]
-mod tests;

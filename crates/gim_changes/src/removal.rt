@@ -64,9 +64,9 @@ fn last_unused_stmt(function: &Function, stmts: &[Stmt], found: Option<u32>) -> 
     found
 }
 
-/// Removes the phis and statements of a name.
+/// Removes the phis and statements of a name. Its row of `names` stays.
 #[tactic(auto, unfolding(crate::specs::Removal::without))]
-fn remove_name(function: &mut Function, name: u32)
+pub fn remove_name(function: &mut Function, name: u32)
     ensures { function.new ≡ removal.without name function.old }
 {
     remove_in_blocks(&mut function.blocks, name);

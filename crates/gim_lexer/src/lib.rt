@@ -58,5 +58,3 @@ pub fn lex(alloc: Global, source: &[u8]) -> Result<Vec<Token>, GimpleFault>
     Ok(tokens)
 }
 
-#[cfg(test)]
-mod tests;

@@ -8,7 +8,5 @@ pub mod laws;
 mod limits;
 mod numbers;
 mod seen;
-#[cfg(test)]
-mod tests;
 
 pub use limits::check_limits;

@@ -70,5 +70,3 @@ pub fn check_names(
     Ok(())
 }
 
-#[cfg(test)]
-mod tests;

@@ -101,5 +101,3 @@ fn judge(alloc: Global, source: &[u8], trees: &[FunctionText]) -> Result<(), Gim
     check_limits(alloc, source, trees)
 }
 
-#[cfg(test)]
-mod tests;

@@ -3,6 +3,5 @@ pub mod Blocks
 pub mod Machines
 pub mod Outcomes
 pub mod Places
-pub mod Samples
 pub mod Slots
 pub mod Ways

@@ -12,5 +12,3 @@ mod steps;
 pub use machine::{Machine, prepare};
 pub use runs::Outcome;
 
-#[cfg(test)]
-mod tests;

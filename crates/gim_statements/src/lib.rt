@@ -20,8 +20,6 @@ mod end;
 mod item;
 mod operand;
 mod right;
-#[cfg(test)]
-mod tests;
 mod words;
 
 pub use block::read_block;

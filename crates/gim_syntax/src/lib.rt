@@ -9,8 +9,6 @@ mod fault;
 mod file;
 mod function;
 mod options;
-#[cfg(test)]
-mod tests;
 
 pub use fault::read_syntax;
 pub use file::parse;

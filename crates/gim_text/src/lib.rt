@@ -10,8 +10,6 @@ mod limits;
 mod literals;
 mod meaning;
 mod occurrence;
-#[cfg(test)]
-mod tests;
 mod texts;
 mod token;
 mod tree;

@@ -6,8 +6,6 @@
 
 mod numbers;
 mod scope;
-#[cfg(test)]
-mod tests;
 mod types;
 
 pub use numbers::number;

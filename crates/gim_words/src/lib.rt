@@ -5,8 +5,6 @@
 #![tactic(auto)]
 
 mod parentheses;
-#[cfg(test)]
-mod tests;
 mod tokens;
 mod type_words;
 mod types;

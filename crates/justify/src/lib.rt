@@ -7,7 +7,5 @@ mod enumeration;
 pub mod laws;
 mod method;
 mod names;
-#[cfg(test)]
-mod tests;
 
 pub use method::{Instance, Method, justify};

@@ -24,5 +24,3 @@ pub use separators::{begins_with_space, comment_len};
 pub use tables::{Row, beside, beside_in_any_case};
 pub use words::is_word_text;
 
-#[cfg(test)]
-mod tests;

@@ -13,8 +13,6 @@ mod pattern;
 mod predicate;
 mod result;
 mod same_text;
-#[cfg(test)]
-mod tests;
 
 pub use c_text::{CDecl, CExpr, CNode, CType, DeclKind};
 pub use call::Call;

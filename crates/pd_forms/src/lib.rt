@@ -10,8 +10,6 @@ mod leaf;
 mod pattern;
 mod result;
 mod tail;
-#[cfg(test)]
-mod tests;
 mod tokens;
 mod tree;
 

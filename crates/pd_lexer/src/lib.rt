@@ -134,5 +134,3 @@ pub fn lex(alloc: Global, source: &[u8]) -> Result<Vec<Token>, PatternFault>
     Ok(tokens)
 }
 
-#[cfg(test)]
-mod tests;

@@ -6,8 +6,6 @@
 
 mod symbol;
 mod terminals;
-#[cfg(test)]
-mod tests;
 mod tokens;
 
 pub use symbol::{Capture, Mark, Symbol, SymbolFault, SymbolStop, Word};

@@ -22,5 +22,3 @@ pub use std_sink::StdSink;
 pub use sure_inputs::SureInputs;
 pub use sure_sink::SureSink;
 
-#[cfg(test)]
-mod tests;

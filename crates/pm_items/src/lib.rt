@@ -12,5 +12,3 @@ pub use boxed::Boxed;
 pub use items::Items;
 pub use shared::Shared;
 
-#[cfg(test)]
-mod tests;

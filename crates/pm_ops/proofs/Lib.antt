@@ -3,3 +3,4 @@ pub mod FindLemmas
 pub mod KindLemmas
 pub mod NameLemmas
 pub mod PredicateLemmas
+pub mod SameCodes

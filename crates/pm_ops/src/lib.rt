@@ -7,8 +7,6 @@ mod fault;
 pub mod laws;
 mod memory;
 mod predicate;
-#[cfg(test)]
-mod tests;
 mod text;
 
 pub use code::Code;

@@ -32,5 +32,3 @@ pub fn line_column(source: &[u8], at: usize) -> (u32, u32)
     (line, column)
 }
 
-#[cfg(test)]
-mod tests;

@@ -9,8 +9,6 @@ mod environment;
 mod fault;
 pub mod laws;
 mod term;
-#[cfg(test)]
-mod tests;
 mod typed;
 mod value;
 

@@ -12,8 +12,6 @@ mod operation;
 mod order;
 mod overflow;
 mod shift;
-#[cfg(test)]
-mod tests;
 mod ty;
 mod typing;
 mod undefined;

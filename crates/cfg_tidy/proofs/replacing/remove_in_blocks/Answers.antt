@@ -1,9 +1,0 @@
-use Rattle.std.proofs.Common.{arith}
-use Rattle.gim_changes.proofs.LoopLemmas.{mapped_next, mapped_end}
-use Rattle.cfg_tidy.proofs.replacing.remove_in_blocks.Goals as goal
-
-pub loop-i-preserved : goal.loop-i-preserved
-loop-i-preserved c = mapped_next c.loop-i.invariant _ _ c.at_mut.ensures.item c.remove_in_block.ensures
-
-pub returns : goal.returns
-returns c = mapped_end c.loop-i.invariant (omega arith)

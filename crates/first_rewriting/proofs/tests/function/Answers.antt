@@ -1,5 +1,0 @@
-use Rattle.pm_wide.specs.Types.{unsigned_int_type}
-use Rattle.first_rewriting.proofs.tests.function.Goals as goal
-
-pub returns : goal.returns
-returns c = record { ty = λ x. unsigned_int_type; names = c.in_ok-names-3.ensures; blocks = c.in_ok-blocks.ensures }
