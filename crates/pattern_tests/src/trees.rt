@@ -80,6 +80,7 @@ fn pattern(alloc: Global) -> Result<Pat, OutOfMemory> {
         cap: Some(cap(alloc, true)?),
         args,
         at: 3,
+        len: 6,
     }))
 }
 

@@ -50,9 +50,17 @@ pub struct MatchForm {
 pub struct ForForm {
     /// Where the form begins.
     pub at: usize,
-    /// Each identifier with the entries of its list.
-    pub heads: Items<(Text, Items<Text>)>,
+    pub heads: Items<ForHead>,
     pub body: Items<Form>,
+}
+
+/// An identifier of a `for`, with the entries of its list.
+#[derive(Debug, Drop)]
+pub struct ForHead {
+    pub name: Text,
+    /// Where the identifier stands.
+    pub at: usize,
+    pub entries: Items<Text>,
 }
 
 /// A pattern with its result, without choices left.
@@ -67,6 +75,8 @@ pub struct Row {
 /// A case of a predicate, without choices left.
 #[derive(Debug, Drop)]
 pub struct PredRow {
+    /// Where its form begins.
+    pub at: usize,
     pub pattern: Shared<Pat>,
     pub tail: Shared<Tail>,
 }

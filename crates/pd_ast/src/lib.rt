@@ -16,7 +16,7 @@ mod same_text;
 
 pub use c_text::{CDecl, CExpr, CNode, CType, DeclKind};
 pub use call::Call;
-pub use form::{ForForm, Form, MatchForm, PredRow, Row, Rows, SimplifyForm};
+pub use form::{ForForm, ForHead, Form, MatchForm, PredRow, Row, Rows, SimplifyForm};
 pub use operator::{BinaryOperator, UnaryOperator};
 pub use pattern::{Cap, Commute, Flags, OpRef, Pat, PatNode};
 pub use predicate::holds;

@@ -30,6 +30,8 @@ pub struct PatNode {
     pub args: Items<Shared<Pat>>,
     /// Where the operator stands.
     pub at: usize,
+    /// How many bytes its name has there, which may be an identifier of a `for`.
+    pub len: usize,
 }
 
 /// A capture, by its name without `@`.
@@ -161,6 +163,7 @@ impl PatNode {
             cap: copied_cap(alloc, &self.cap)?,
             args: shared_patterns(alloc, self.args.as_slice())?,
             at: self.at,
+            len: self.len,
         })
     }
 
@@ -170,6 +173,7 @@ impl PatNode {
         ensures { IsTrue result ↔ (self.now ≡ other.now) }
     {
         self.at == other.at
+            && self.len == other.len
             && self.flags == other.flags
             && self.op.same(&other.op)
             && same_cap(&self.cap, &other.cap)
