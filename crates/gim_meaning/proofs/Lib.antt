@@ -2,6 +2,7 @@ pub mod Agreement
 pub mod AllowedInsertions
 pub mod AlongRuns
 pub mod BlockOfPlace
+pub mod ExactRuns
 pub mod InsertionRuns
 pub mod KeptInARow
 pub mod ListSearch
@@ -13,6 +14,7 @@ pub mod OperandsStand
 pub mod PartsOfTerms
 pub mod PathsBack
 pub mod PhiReading
+pub mod PhiRemovalRuns
 pub mod PhisOfOneOperand
 pub mod PossibleWords
 pub mod Reached
