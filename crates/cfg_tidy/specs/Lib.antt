@@ -1,4 +1,5 @@
 pub mod Branches
+pub mod Kept
 pub mod Phis
 pub mod Reached
 pub mod Removal

@@ -1,5 +1,6 @@
 //! The changes, one after another.
 ghost use Rattle.std.specs.Prelude.{IfOk, IsTrue};
+ghost use Rattle.gim_ast.specs.Readable.{IsValid};
 ghost use Rattle.gim_ast.specs.WellFormed.{IsWellFormed};
 ghost use Rattle.cfg_tidy.specs.SameRuns.{RunAlike, take_no_phi};
 ghost use Rattle.cfg_tidy.specs.Tidying.{MakesFirst, IsTidied};
@@ -56,8 +57,11 @@ fn make_changes(alloc: Global, function: Function) -> Result<Tidied, OutOfMemory
 /// change but a branch as the square of the number of its blocks.
 pub fn tidy(alloc: Global, function: Function) -> Result<Tidied, OutOfMemory>
     ensures changes { IfOk result (λ tidied. IsTidied function tidied.changes tidied.function) }
-    // Where no phi went, each run is as before.
-    ensures runs { IfOk result (λ tidied. IsWellFormed function → IsTrue (take_no_phi tidied.changes) →
+    ensures valid { IfOk result (λ tidied. IsValid function → IsValid tidied.function) }
+    // On all arguments and each fuel, also where the run is undefined.
+    ensures runs { IfOk result (λ tidied. IsValid function → RunAlike function tidied.function) }
+    // Where no phi went, that holds of each well-formed function.
+    ensures runs_without_phis { IfOk result (λ tidied. IsWellFormed function → IsTrue (take_no_phi tidied.changes) →
         RunAlike function tidied.function) }
 {
     make_changes(alloc, function)
