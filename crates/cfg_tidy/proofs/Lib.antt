@@ -4,6 +4,7 @@ pub mod CutFunctions
 pub mod DroppedRuns
 pub mod FirstCopy
 pub mod FoundBlocks
+pub mod ReachedAfter
 pub mod ReachedParts
 pub mod ReachedPaths
 pub mod RunningAlike
