@@ -1,4 +1,5 @@
 pub mod Agreement
+pub mod AllRunsKept
 pub mod AllowedInsertions
 pub mod AlongRuns
 pub mod BlockOfPlace
@@ -20,6 +21,7 @@ pub mod ReadableValues
 pub mod RemovalRuns
 pub mod RightSides
 pub mod RunsAndPoints
+pub mod StuckAlike
 pub mod SubstitutionRuns
 pub mod SumsAndDifferences
 pub mod TermsAfterInsertion

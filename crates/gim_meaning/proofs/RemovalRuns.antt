@@ -36,10 +36,10 @@ unseen_assignment : (e d : Env) (x : ℕ) (w : Word) → AgreeOn (IsOther x) e d
 unseen_assignment e d x w agree y other = agree y other ∙ sym (others_agree e x w y other)
 
 module _ (x : ℕ) (f : Function) (none : is_used f x ≡ false) where
-  all_others : AllStand (IsOther x) (operands_of f)
+  pub all_others : AllStand (IsOther x) (operands_of f)
   all_others = unused_stand x (operands_of f) none
 
-  typed_without : (y : ℕ) → name_type (without x f) y ≡ name_type f y
+  pub typed_without : (y : ℕ) → name_type (without x f) y ≡ name_type f y
   unfolding name_type row_of without
   typed_without y = refl
 
@@ -84,48 +84,50 @@ module _ (x : ℕ) (f : Function) (none : is_used f x ≡ false) where
           (sym word_is) (agree_assigned (IsOther x) now then phi.name w so_far))
 
   module _ (args : List Word) where
+    -- one statement, that of the name or another
+    pub other_step : (block : Block) (stmt : Stmt) (stmts : List Stmt) (e d : Env) (w : Word) →
+        Reaches f args (Inside block (stmt ∷ stmts) e) → AgreeOn (IsOther x) e d →
+        rhs_value (name_type f stmt.name) e stmt.rhs ≡ Some w →
+        (next : Env) × (pass_stmts (without x f)
+        (filter (stmt_stays x) (stmt ∷ stmts)) d ≡ pass_stmts (without x f)
+        (filter (stmt_stays x) stmts) next) ×
+        AgreeOn (IsOther x) (assign stmt.name w e) next
+    other_step block stmt stmts e d w reached agree value = by (eqb stmt.name x) refl
+      where
+        rest : List Stmt
+        rest = filter (stmt_stays x) stmts
+
+        same : rhs_value (name_type (without x f) stmt.name) d stmt.rhs ≡ Some w
+        same = ap (λ t. rhs_value t d stmt.rhs) (typed_without stmt.name)
+            ∙ same_value (IsOther x) e d agree (name_type f stmt.name) stmt.rhs
+            (stmt_stands f (IsOther x) all_others block stmt stmts (lies reached)) ∙ value
+
+        by : (b : Bool) → eqb stmt.name x ≡ b →
+            (next : Env) × (pass_stmts (without x f)
+            (cond (not b) (stmt ∷ rest) rest) d ≡ pass_stmts (without x f) rest next) ×
+            AgreeOn (IsOther x) (assign stmt.name w e) next
+        by true is = (
+          d,
+          refl,
+          subst (λ z. AgreeOn (IsOther x) (assign z w e) d)
+              (sym (eqb-true stmt.name x is)) (unseen_assignment e d x w agree),
+        )
+        by false is = (
+          assign stmt.name w d,
+          passes_stmt
+              (without x f) stmt rest d w same,
+          agree_assigned (IsOther x) e d stmt.name w agree,
+        )
+
     other_stmts : (block : Block) (e after d : Env) → Reaches f args (Inside block block.stmts e) →
         pass_stmts f block.stmts e ≡ On after → AgreeOn (IsOther x) e d →
         PassesAlike (without x f) (IsOther x) after (filter (stmt_stays x) block.stmts) d
     other_stmts block e after d reached is agree =
-        passes_alike f (without x f) (IsOther x) args block (filter (stmt_stays x)) steps
+        passes_alike f (without x f) (IsOther x) args block (filter (stmt_stays x))
+        (other_step block)
         (λ e d reached agree. (d, refl, agree)) block.stmts e after d reached is agree
-      where
-        steps : (stmt : Stmt) (stmts : List Stmt) (e d : Env) (w : Word) →
-            Reaches f args (Inside block (stmt ∷ stmts) e) → AgreeOn (IsOther x) e d →
-            rhs_value (name_type f stmt.name) e stmt.rhs ≡ Some w →
-            (next : Env) × (pass_stmts (without x f)
-            (filter (stmt_stays x) (stmt ∷ stmts)) d ≡ pass_stmts (without x f)
-            (filter (stmt_stays x) stmts) next) ×
-            AgreeOn (IsOther x) (assign stmt.name w e) next
-        steps stmt stmts e d w reached agree value = by (eqb stmt.name x) refl
-          where
-            rest : List Stmt
-            rest = filter (stmt_stays x) stmts
 
-            same : rhs_value (name_type (without x f) stmt.name) d stmt.rhs ≡ Some w
-            same = ap (λ t. rhs_value t d stmt.rhs) (typed_without stmt.name)
-                ∙ same_value (IsOther x) e d agree (name_type f stmt.name) stmt.rhs
-                (stmt_stands f (IsOther x) all_others block stmt stmts (lies reached)) ∙ value
-
-            by : (b : Bool) → eqb stmt.name x ≡ b →
-                (next : Env) × (pass_stmts (without x f)
-                (cond (not b) (stmt ∷ rest) rest) d ≡ pass_stmts (without x f) rest next) ×
-                AgreeOn (IsOther x) (assign stmt.name w e) next
-            by true is = (
-              d,
-              refl,
-              subst (λ z. AgreeOn (IsOther x) (assign z w e) d)
-                  (sym (eqb-true stmt.name x is)) (unseen_assignment e d x w agree),
-            )
-            by false is = (
-              assign stmt.name w d,
-              passes_stmt
-                  (without x f) stmt rest d w same,
-              agree_assigned (IsOther x) e d stmt.name w agree,
-            )
-
-    goes_without : GoesAlike f (without x f) (without_in_block x) (IsOther x) args
+    pub goes_without : GoesAlike f (without x f) (without_in_block x) (IsOther x) args
     goes_without = record {
       begins = λ y other. ap (λ (env : Env). env y) (starts_without args);
       phis = λ place block d reached found agree.

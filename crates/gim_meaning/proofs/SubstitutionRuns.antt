@@ -94,7 +94,7 @@ module _ (x : ℕ) (by : Operand) (e d : Env) (agree : AgreeOn Any e d) where
       (put_word a (first_alike a operands alike))
       ∙ ap (λ ws. word_of_operand e a ∷ ws) (put_words operands (rest_alike a operands alike))
 
-  put_value : (t : Ty) (rhs : Rhs) → AlikeAmong (operands_of_rhs rhs) →
+  pub put_value : (t : Ty) (rhs : Rhs) → AlikeAmong (operands_of_rhs rhs) →
       rhs_value t d (put_in_rhs x by rhs) ≡ rhs_value t e rhs
   put_value t (Copy a) alike = ap Some (put_word a alike)
   put_value t (Op code operands) alike = ap (operation_value code t) (put_words operands alike)
@@ -202,7 +202,7 @@ each_of P Q tells (a ∷ xs) all = (tells a all.0, each_of P Q tells xs all.1)
 
 module _ (f : Function) (well : IsWellFormed f) (x : ℕ) (by : Operand)
     (alike : AllByRecursion (ReadsAlike f x by) (uses_in f)) where
-  put_typed : (y : ℕ) → TypedAlike f (put_in_all x by f) y
+  pub put_typed : (y : ℕ) → TypedAlike f (put_in_all x by f) y
   unfolding name_type row_of put_in_all
   put_typed y = refl
 
@@ -210,7 +210,7 @@ module _ (f : Function) (well : IsWellFormed f) (x : ℕ) (by : Operand)
   unfolding start_env row_of put_in_all
   put_starts args = refl
 
-  alike_in : (n : ℕ) (block : Block) → block_of f n ≡ Some block →
+  pub alike_in : (n : ℕ) (block : Block) → block_of f n ≡ Some block →
       AllByRecursion (ReadsAlike f x by) (uses_in_block block)
   unfolding block_of
   alike_in n block found = parts_of_found (λ (b : Block). eqb b.number n)
@@ -218,7 +218,7 @@ module _ (f : Function) (well : IsWellFormed f) (x : ℕ) (by : Operand)
 
   module _ (args : List Word) (words : AreArgumentWords f args) where
     -- at a point where a run comes
-    alike_there : (block : Block) (stmts : List Stmt) (e : Env) →
+    pub alike_there : (block : Block) (stmts : List Stmt) (e : Env) →
         Reaches f args (Inside block stmts e) → (n k at : ℕ) → block.number ≡ at → (y : ℕ) →
         ReadsAlike f x by (record {
           block = n;
@@ -231,7 +231,7 @@ module _ (f : Function) (well : IsWellFormed f) (x : ℕ) (by : Operand)
     alike_there block stmts e reached n k at number y reads same =
         reads same args words block stmts e reached number refl
 
-    put_step : (block : Block) (stmt : Stmt) (stmts : List Stmt) (e d : Env) (w : Word) →
+    pub put_step : (block : Block) (stmt : Stmt) (stmts : List Stmt) (e d : Env) (w : Word) →
         Reaches f args (Inside block (stmt ∷ stmts) e) → AgreeOn Any e d →
         rhs_value (name_type f stmt.name) e stmt.rhs ≡ Some w →
         (next : Env) × (pass_stmts (put_in_all x by f)
@@ -324,7 +324,7 @@ module _ (f : Function) (well : IsWellFormed f) (x : ℕ) (by : Operand)
             (assign_each ps d)) (sym pairs)
             (agree_assigned_each Any (old came.0.number) place.env d agree))
 
-    goes_with_put : GoesAlike f (put_in_all x by f) (put_in_block x by) Any args
+    pub goes_with_put : GoesAlike f (put_in_all x by f) (put_in_block x by) Any args
     goes_with_put = record {
       begins = λ y stands. ap (λ (env : Env). env y) (put_starts args);
       phis = put_phis;
