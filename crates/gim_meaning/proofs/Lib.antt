@@ -1,4 +1,5 @@
 pub mod Agreement
+pub mod AllRunsKept
 pub mod AllowedInsertions
 pub mod AlongRuns
 pub mod BlockOfPlace
@@ -29,3 +30,4 @@ pub mod TrimmingRuns
 pub mod TypedWords
 pub mod UnchangedItems
 pub mod UnfoldedTerms
+pub mod UnstuckRemoval
