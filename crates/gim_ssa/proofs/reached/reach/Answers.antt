@@ -2,7 +2,7 @@ use Rattle.std.proofs.Common.{◌≡◌, ◌<◌, length, ap, sym, ◌∙◌, su
 use Rattle.gim_ssa.specs.Search.{Adds, AreWithin}
 use Rattle.gim_ssa.specs.Reach.{next_to}
 use Rattle.gim_ssa.proofs.ReachLemmas.{next_read, found_within, reaching_begins, reaching_goes_on, reaching_ends}
-use Rattle.gim_ssa.proofs.reach.reach.Goals as goal
+use Rattle.gim_ssa.proofs.reached.reach.Goals as goal
 
 pub add_all-requires : goal.add_all-requires
 add_all-requires c =
