@@ -113,7 +113,7 @@ pub record SpotStands (f : Function) (spot : Spot) : Type 0 where
   pub home : spot.home ≡ block.number
   pub left : spot.left ≡ map stmt_name (spot.stmt ∷ rest)
 
-member_place : {X : Type 0} (x : X) (xs : List X) → IsMember x xs → (k : ℕ) × (slice_get xs k ≡ Some x)
+pub member_place : {X : Type 0} (x : X) (xs : List X) → IsMember x xs → (k : ℕ) × (slice_get xs k ≡ Some x)
 member_place x [] one = absurd one
 member_place x (y ∷ xs) one = ⊎_elim (λ here. (zero, ap Some here)) (λ later. let r = member_place x xs later in (suc r.0, r.1)) one
 
@@ -178,7 +178,7 @@ module _ (f : Function) (valid : IsValid f) (x y : ℕ) (merge : IsMerge f x y) 
   pub others : y ≡ x → ⊥
   others same = may.other (same ∙ sym merge.name)
 
-  pub by_y : Operand
+  unfoldable pub by_y : Operand
   by_y = Name y (name_type f y)
 
   assigned_by_spot : (s : Spot) → SpotStands f s → is_assigned f s.stmt.name ≡ true
@@ -207,10 +207,10 @@ module _ (f : Function) (valid : IsValid f) (x y : ℕ) (merge : IsMerge f x y) 
   pub x_is_assigned : is_assigned f x ≡ true
   x_is_assigned = subst (λ z. is_assigned f z ≡ true) merge.name (assigned_by_spot merge.spot there)
 
-  spot_of_y : (s : Spot) × IsMember s (spots_of f) × (s.stmt.name ≡ y)
+  pub spot_of_y : (s : Spot) × IsMember s (spots_of f) × (s.stmt.name ≡ y) × (s.stmt.rhs ≡ merge.spot.stmt.rhs)
   spot_of_y = spot_of_right f y merge.spot.stmt.rhs right_of_y
 
-  y_stands : SpotStands f spot_of_y.0
+  pub y_stands : SpotStands f spot_of_y.0
   y_stands = spot_stands f spot_of_y.0 spot_of_y.1
 
   y_is_assigned : is_assigned f y ≡ true
@@ -249,7 +249,7 @@ module _ (f : Function) (valid : IsValid f) (x y : ℕ) (merge : IsMerge f x y) 
       (subst (λ n. IsReadable f y n (x ∷ map stmt_name there.rest)) there.home
       (subst (λ l. IsReadable f y merge.spot.home l) (there.left ∙ ap (λ z. z ∷ map stmt_name there.rest) merge.name) may.readable)))
 
-  pub put_for_x : Function
+  unfoldable pub put_for_x : Function
   put_for_x = put_in_all x by_y f
 
   y_is_not_x : is_name x by_y ≡ false
@@ -260,7 +260,7 @@ module _ (f : Function) (valid : IsValid f) (x y : ℕ) (merge : IsMerge f x y) 
   unfolding put_for_x by_y
   put_is_valid = valid_with_put x by_y f valid x_is_assigned y_holds y_has_type_of_x comes_before
 
-  x_is_unused : is_used put_for_x x ≡ false
+  pub x_is_unused : is_used put_for_x x ≡ false
   unfolding put_for_x
   x_is_unused = unused_after_put x by_y y_is_not_x f
 

@@ -1,13 +1,14 @@
 -- The statements of a function by their places.
-use Rattle.std.proofs.Common.{◌≡◌, ℕ, zero, suc, ◌+◌, ◌<◌, Option, Some, None, List, [], ◌∷◌, ◌++◌, map, take, drop, length, slice_get, refl, sym, ap, ap₂, ◌∙◌, arith, append_assoc, append-nil}
+use Rattle.std.proofs.Common.{◌≡◌, ℕ, zero, suc, ◌+◌, ◌<◌, Option, Some, None, List, [], ◌∷◌, ◌++◌, map, take, drop, length, slice_get, refl, sym, ap, ap₂, subst, ◌∙◌, arith, append_assoc, append-nil, length-append}
 use Rattle.std.specs.List.{flat_map}
 use Rattle.std.specs.Option.{option_map, option_and_then}
 use Rattle.std.proofs.lemmas.Option.{same_Some, none-some}
-use Rattle.std.proofs.lemmas.List.{map-append}
+use Rattle.std.proofs.lemmas.List.{map-append, length-map, length-take}
 use Rattle.gim_ast.specs.declared.function.Function.{Function}
 use Rattle.gim_ast.specs.declared.function.Block.{Block}
 use Rattle.gim_ast.specs.declared.function.Stmt.{Stmt}
 use Rattle.gim_ast.specs.Functions.{stmt_name, phi_name, assigned_in}
+use Rattle.gim_ssa.specs.Readability.{IsBehind}
 use Rattle.value_numbers.specs.declared.places.Place.{Place}
 use Rattle.value_numbers.specs.Spots.{Spot, spots_in, spots_of_block, spots_of, spot_in, spot_at, ArePlaces}
 
@@ -120,3 +121,28 @@ pub place_within : {X : Type 0} (xs : List X) (k : ℕ) (x : X) → slice_get xs
 place_within [] k x is = absurd (none-some x is)
 place_within (y ∷ xs) zero x is = omega arith
 place_within (y ∷ xs) (suc k) x is = let h = place_within xs k x is in omega (arith, h)
+
+-- the point before a statement, by what the block has assigned there
+pub point_before : (f : Function) (place : Place) (spot : Spot) → spot_at f place ≡ Some spot → (block : Block) → slice_get f.blocks place.block ≡ Some block →
+    IsBehind f block.number (length block.phis + place.stmt) spot.left × (block.number ≡ spot.home)
+point_before f place spot is block at =
+    let there = stands_at f place spot is in
+    let home = there.block in
+    let k = place.stmt in
+    let same : home ≡ block = same_Some home block (sym there.at ∙ at) in
+    let point : IsBehind f home.number (length home.phis + k) spot.left = record {
+      place = place.block;
+      home = home;
+      at = there.at;
+      number = refl;
+      front = before home k;
+      split = before_and_left home k ∙ ap (λ l. before home k ++ l) (ap (λ (s : Spot). s.left) there.is);
+      count =
+          let both = length-append (map phi_name home.phis) (map stmt_name (take k home.stmts)) in
+          let phis = length-map home.phis phi_name in
+          let stmts = length-map (take k home.stmts) stmt_name in
+          let taken = length-take k home.stmts in
+          let within = place_within home.stmts k there.stmt there.stmt_at in
+          omega (arith, both, phis, stmts, taken, within);
+    } in
+    subst (λ (b : Block). IsBehind f b.number (length b.phis + k) spot.left × (b.number ≡ spot.home)) same (point, ap (λ (s : Spot). s.home) there.is)

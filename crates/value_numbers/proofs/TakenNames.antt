@@ -1,10 +1,10 @@
 -- The least name that may be taken, found statement by statement.
-use Rattle.std.proofs.Common.{◌≡◌, ℕ, zero, suc, ◌+◌, ◌<◌, ◌≤◌, true, Option, Some, None, List, [], ◌∷◌, ◌++◌, eqb, map, take, drop, length, slice_get, get_or, refl, sym, ap, subst, ◌∙◌, inl, inr, ⊎_elim, arith}
+use Rattle.std.proofs.Common.{◌≡◌, ℕ, zero, suc, ◌+◌, ◌<◌, ◌≤◌, true, Option, Some, None, List, [], ◌∷◌, ◌++◌, eqb, map, filter, take, drop, length, slice_get, get_or, refl, sym, ap, subst, ◌∙◌, inl, inr, ⊎_elim, arith}
 use Rattle.std.specs.Prelude.{MatchOption}
 use Rattle.std.specs.List.{AllByRecursion, flat_map}
 use Rattle.std.specs.Option.{option_map}
 use Rattle.std.proofs.lemmas.Option.{same_Some, none-some, get_or_from_slice_get}
-use Rattle.std.proofs.lemmas.Bool.{eqb-true}
+use Rattle.std.proofs.lemmas.Bool.{eqb-true, eq-eqb}
 use Rattle.gim_ast.specs.declared.function.Function.{Function}
 use Rattle.gim_ast.specs.declared.function.Block.{Block}
 use Rattle.gim_ast.specs.declared.function.Stmt.{Stmt}
@@ -12,7 +12,7 @@ use Rattle.gim_ast.specs.declared.function.Rhs.{Rhs}
 use Rattle.gim_ast.specs.Functions.{first_where, stmts_of, stmt_name, right_of}
 use Rattle.gim_ast.specs.WellFormed.{IsWellFormed, is_assigned}
 use Rattle.gim_ast.specs.Readable.{IsReadable, IsValid}
-use Rattle.gim_changes.proofs.Members.{IsMember, each_member, slice_member, member_of_parts, part_member}
+use Rattle.gim_changes.proofs.Members.{IsMember, each_member, filtered_member, slice_member, member_of_parts, part_member}
 use Rattle.gim_changes.proofs.RulesOfNames.{first_passes, stmt_stands, stmt_assigns, assigned_is}
 use Rattle.gim_meaning.specs.ReachedPoints.{Lies}
 use Rattle.gim_meaning.proofs.BlockOfPlace.{block_at}
@@ -21,6 +21,7 @@ use Rattle.value_numbers.specs.declared.places.Place.{Place}
 use Rattle.value_numbers.specs.Candidates.{ComputesAlike, IsLeastAmong}
 use Rattle.value_numbers.specs.Merges.{MayTake, HasNone, IsLeast, IsMerge}
 use Rattle.value_numbers.specs.Spots.{Spot, spots_in, spots_of_block, spots_of, spot_at, ArePlaces}
+use Rattle.value_numbers.specs.Tables.{bucket_number, is_in_bucket}
 use Rattle.value_numbers.proofs.SpotLists.{StandsAt, stands_at, some_there, take_and_drop, take_one_more, take_whole}
 
 -- ---- all of a list, and one more
@@ -60,17 +61,6 @@ right_there f well place spot is =
     let there = lies_there f well place spot at in
     subst (λ (s : Spot). right_of f s.stmt.name ≡ Some s.stmt.rhs) at.is (right_at f well at.block at.stmt there.0 there.2)
 
-pub stmt_is_one : (f : Function) (place : Place) (spot : Spot) → spot_at f place ≡ Some spot → IsMember spot.stmt (stmts_of f)
-stmt_is_one f place spot is =
-    let at = stands_at f place spot is in
-    subst (λ (s : Spot). IsMember s.stmt (stmts_of f)) at.is
-    (part_member (λ (b : Block). b.stmts) at.stmt at.block f.blocks (slice_member f.blocks place.block at.block at.at)
-    (slice_member at.block.stmts place.stmt at.stmt at.stmt_at))
-
-pub assigned_there : (f : Function) (place : Place) (spot : Spot) → spot_at f place ≡ Some spot → is_assigned f spot.stmt.name ≡ true
-assigned_there f place spot is =
-    assigned_is f spot.stmt.name (stmt_assigns f spot.stmt.name spot.stmt (stmt_stands f spot.stmt (stmt_is_one f place spot is)))
-
 -- each name with a right side has a statement among the spots
 in_spots : (n : ℕ) (stmts : List Stmt) (stmt : Stmt) → IsMember stmt stmts → (spot : Spot) × IsMember spot (spots_in n stmts) × (spot.stmt ≡ stmt)
 in_spots n [] stmt one = absurd one
@@ -79,12 +69,13 @@ in_spots n (s ∷ stmts) stmt one = ⊎_elim
     (λ later. let r = in_spots n stmts stmt later in (r.0, inr r.1, r.2))
     one
 
-pub spot_of_right : (f : Function) (y : ℕ) (rhs : Rhs) → right_of f y ≡ Some rhs → (spot : Spot) × IsMember spot (spots_of f) × (spot.stmt.name ≡ y)
+pub spot_of_right : (f : Function) (y : ℕ) (rhs : Rhs) → right_of f y ≡ Some rhs →
+    (spot : Spot) × IsMember spot (spots_of f) × (spot.stmt.name ≡ y) × (spot.stmt.rhs ≡ rhs)
 unfolding right_of spots_of
 spot_of_right f y rhs is = by (first_where (λ (s : Stmt). eqb s.name y) (stmts_of f)) refl is
   where
     by : (o : Option Stmt) → first_where (λ (s : Stmt). eqb s.name y) (stmts_of f) ≡ o → option_map (λ (s : Stmt). s.rhs) o ≡ Some rhs →
-        (spot : Spot) × IsMember spot (flat_map spots_of_block f.blocks) × (spot.stmt.name ≡ y)
+        (spot : Spot) × IsMember spot (flat_map spots_of_block f.blocks) × (spot.stmt.name ≡ y) × (spot.stmt.rhs ≡ rhs)
     by None found e = absurd (none-some rhs e)
     by (Some stmt) found e =
         let passes = first_passes (λ (s : Stmt). eqb s.name y) (stmts_of f) stmt found in
@@ -93,6 +84,7 @@ spot_of_right f y rhs is = by (first_where (λ (s : Stmt). eqb s.name y) (stmts_
           spot.0,
           part_member spots_of_block spot.0 block.0 f.blocks block.1 spot.1,
           ap (λ (s : Stmt). s.name) spot.2 ∙ eqb-true stmt.name y passes.1,
+          ap (λ (s : Stmt). s.rhs) spot.2 ∙ same_Some stmt.rhs rhs e,
         )
 
 -- ---- which name may be taken
@@ -145,17 +137,27 @@ module _ (f : Function) (spot : Spot) where
             (weaker (AtMost y) (AtMost another.stmt.name) (λ s at_most taken. let k = at_most taken in omega (arith, k, below)) spots least.1) ((λ _. omega arith), tt),
       )
 
-  pub least_of_all : (found : Option ℕ) → IsLeastAmong f spot (spots_of f) found → MatchOption found (HasNone f spot) (IsLeast f spot)
-  unfolding NotTaken AtMost
-  least_of_all None least = λ y may.
-      let one = spot_of_right f y spot.stmt.rhs may.right in
-      each_member NotTaken (spots_of f) least one.0 one.1 (subst (MayTake f spot) (sym one.2) may)
-  least_of_all (Some y) least = record {
-    may = least.0;
-    least = λ z may.
-        let one = spot_of_right f z spot.stmt.rhs may.right in
-        subst (λ v. y ≤ v) one.2 (each_member (AtMost y) (spots_of f) least.1 one.0 one.1 (subst (MayTake f spot) (sym one.2) may));
-  }
+  -- the names that may be taken are those of statements in the bucket of the right side
+  module _ (count b : ℕ) (is : bucket_number count spot.stmt.rhs ≡ b) where
+    in_bucket : (y : ℕ) → MayTake f spot y → (one : Spot) × IsMember one (filter (is_in_bucket count b) (spots_of f)) × (one.stmt.name ≡ y)
+    in_bucket y may =
+        let one = spot_of_right f y spot.stmt.rhs may.right in (
+          one.0,
+          filtered_member (is_in_bucket count b) one.0 (spots_of f) one.1 (eq-eqb (bucket_number count one.0.stmt.rhs) b (ap (bucket_number count) one.3 ∙ is)),
+          one.2,
+        )
+
+    pub least_of_bucket : (found : Option ℕ) → IsLeastAmong f spot (filter (is_in_bucket count b) (spots_of f)) found → MatchOption found (HasNone f spot) (IsLeast f spot)
+    unfolding NotTaken AtMost
+    least_of_bucket None least = λ y may.
+        let one = in_bucket y may in
+        each_member NotTaken (filter (is_in_bucket count b) (spots_of f)) least one.0 one.1 (subst (MayTake f spot) (sym one.2) may)
+    least_of_bucket (Some y) least = record {
+      may = least.0;
+      least = λ z may.
+          let one = in_bucket z may in
+          subst (λ v. y ≤ v) one.2 (each_member (AtMost y) (filter (is_in_bucket count b) (spots_of f)) least.1 one.0 one.1 (subst (MayTake f spot) (sym one.2) may));
+    }
 
 -- ---- lists of places
 

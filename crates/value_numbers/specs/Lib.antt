@@ -1,5 +1,5 @@
 pub mod Candidates
-pub mod Heads
 pub mod Merges
-pub mod Misses
+pub mod Rows
 pub mod Spots
+pub mod Tables

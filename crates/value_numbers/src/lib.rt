@@ -4,11 +4,10 @@
 
 mod carrying;
 mod equality;
-mod heads;
 pub mod laws;
 mod merges;
 mod numbering;
 mod places;
-mod readable;
+mod table;
 
 pub use numbering::{Numbered, number};

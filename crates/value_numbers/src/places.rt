@@ -1,9 +1,9 @@
 //! The places of all statements, in program order.
 ghost use Rattle.std.specs.Prelude.{◌≡◌, ◌++◌, map, length, Some, slice_get, IfOk, OnOk, ◌<◌};
 ghost use Rattle.gim_ast.specs.declared.function.Block.{Block};
-ghost use Rattle.value_numbers.specs.Spots.{spot_at, spots_in, spots_of, spots_of_block, ArePlaces};
+ghost use Rattle.value_numbers.specs.Spots.{Spot, spot_at, spots_in, spots_of, spots_of_block, ArePlaces};
 
-use gim_ast::Function;
+use gim_ast::{Function, Stmt};
 use pm_items::Items;
 use pm_ops::OutOfMemory;
 use std::alloc::Global;
@@ -42,4 +42,12 @@ pub fn places(alloc: Global, function: &Function) -> Result<Items<Place>, OutOfM
         push_block(&mut places, function, block)?;
     }
     Ok(places)
+}
+
+/// The statement at a place.
+pub fn stmt_at(function: &Function, place: Place) -> &Stmt
+    requires { (spot : Spot) × (spot_at function.now place ≡ Some spot) }
+    ensures { (spot : Spot) → spot_at function.now place ≡ Some spot → result.now ≡ spot.stmt }
+{
+    function.blocks.at(place.block).stmts.at(place.stmt)
 }

@@ -5,8 +5,8 @@ use Rattle.value_numbers.specs.Candidates.{IsLeastAmong}
 use Rattle.value_numbers.proofs.TakenNames.{not_less_stays, lesser_comes}
 use Rattle.value_numbers.proofs.merges.lesser.Goals as goal
 
-pub returns-then-not-is_less : goal.returns-then-not-is_less
-returns-then-not-is_less c = λ spot another spots here there least.
+pub returns-then-not-is_less-clause-lesser : goal.returns-then-not-is_less-clause-lesser
+returns-then-not-is_less-clause-lesser c = λ spot another spots here there least.
     let name : c.stmt_at.result.now.name ≡ another.stmt.name = ap (λ (s : Stmt). s.name) (c.stmt_at.ensures another there) in
     not_less_stays c.args.function.now spot spots another c.args.found
     (λ none. both_ways c.is_less.result c.if-not-is_less.true (c.is_less.ensures.none none))
@@ -16,12 +16,12 @@ returns-then-not-is_less c = λ spot another spots here there least.
     (cases_lt c.stmt_at.result.now.name y)))
     least
 
-pub returns-then-branch : goal.returns-then-branch
-returns-then-branch c = λ spot another spots here there least.
+pub returns-then-branch-clause-lesser : goal.returns-then-branch-clause-lesser
+returns-then-branch-clause-lesser c = λ spot another spots here there least.
     let f = c.args.function.now in
     let name : c.stmt_at.result.now.name ≡ another.stmt.name = ap (λ (s : Stmt). s.name) (c.stmt_at.ensures another there) in
     subst (λ n. IsLeastAmong f spot (spots ++ another ∷ []) (Some n)) (sym name)
     (lesser_comes f spot spots another c.args.found
     (λ y is. subst (λ n. n ≤ y) name (let less : c.stmt_at.result.now.name < y = (c.is_less.ensures.some y is).0 c.if-not-is_less.false in omega (arith, less)))
-    ((c.in_ok-may_take.ensures spot another here there).0 c.if-branch.true)
+    ((c.in_ok-may_take.ensures.may spot another here there).0 c.if-branch.true)
     least)

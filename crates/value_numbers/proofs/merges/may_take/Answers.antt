@@ -4,13 +4,12 @@ use Rattle.std.proofs.lemmas.Bool.{both_ways}
 use Rattle.std.proofs.lemmas.Result.{IfOk-weaker}
 use Rattle.gim_ast.specs.declared.function.Stmt.{Stmt}
 use Rattle.gim_ast.specs.Readable.{IsReadable}
-use Rattle.gim_ast.specs.WellFormed.{is_assigned}
 use Rattle.value_numbers.specs.Candidates.{ComputesAlike}
-use Rattle.value_numbers.proofs.TakenNames.{assigned_there, may_take, computes_alike}
+use Rattle.value_numbers.proofs.TakenNames.{may_take, computes_alike}
 use Rattle.value_numbers.proofs.merges.may_take.Goals as goal
 
-pub returns-then-not-computes_alike : goal.returns-then-not-computes_alike
-returns-then-not-computes_alike c = λ spot another here there. (
+pub returns-then-not-computes_alike-clause-may : goal.returns-then-not-computes_alike-clause-may
+returns-then-not-computes_alike-clause-may c = λ spot another here there. (
   λ never. absurd (both_ways false refl never),
   λ may.
       let f = c.args.function.now in
@@ -21,14 +20,8 @@ returns-then-not-computes_alike c = λ spot another here there. (
       absurd (both_ways c.computes_alike.result c.if-not-computes_alike.true told),
 )
 
-pub is_readable-requires-clause-assigned : goal.is_readable-requires-clause-assigned
-is_readable-requires-clause-assigned c =
-    let f = c.args.function.now in
-    let there = c.requires.there in
-    subst (λ (s : Stmt). IsTrue (is_assigned f s.name)) (sym (c.stmt_at-candidate.ensures there.0 there.1)) (assigned_there f c.args.other there.0 there.1)
-
-pub returns : goal.returns
-returns c = IfOk-weaker c.is_readable.result _ _ (λ readable told spot another here there.
+pub returns-clause-may : goal.returns-clause-may
+returns-clause-may c = IfOk-weaker c.is_readable.result _ _ (λ readable told spot another here there.
     let f = c.args.function.now in
     let alike : ComputesAlike f spot.stmt another.stmt =
     subst (λ (s : Stmt). ComputesAlike f spot.stmt s) (c.stmt_at-candidate.ensures another there)
@@ -37,4 +30,4 @@ returns c = IfOk-weaker c.is_readable.result _ _ (λ readable told spot another 
     let here_too = subst (λ (s : Stmt). IsTrue readable ↔ IsReadable f s.name spot.home spot.left) (c.stmt_at-candidate.ensures another there) (told spot here) in (
       λ yes. may_take f c.requires.valid c.args.place c.args.other spot another here there alike (here_too.0 yes),
       λ may. here_too.1 may.readable,
-    )) c.is_readable.ensures
+    )) c.is_readable.ensures.exact

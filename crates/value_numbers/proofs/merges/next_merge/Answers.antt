@@ -7,8 +7,8 @@ use Rattle.value_numbers.specs.Spots.{spots_of, ArePlaces}
 use Rattle.value_numbers.proofs.TakenNames.{spot_read, as_many, first_found, none_so_far}
 use Rattle.value_numbers.proofs.merges.next_merge.Goals as goal
 
-pub least-requires-clause-here : goal.least-requires-clause-here
-least-requires-clause-here c =
+pub least_alike-requires-clause-here : goal.least_alike-requires-clause-here
+least_alike-requires-clause-here c =
     let f = c.args.function.now in
     let are = subst (λ l. ArePlaces f l (spots_of f)) (sym c.as_slice-place-items.ensures) c.in_ok-places.ensures in
     let one = spot_read f c.as_slice-place-items.result.now (spots_of f) are c.loop-place.place-index _ (omega arith) in
@@ -27,9 +27,9 @@ returns-in-Some c =
     let are = subst (λ l. ArePlaces f l (spots_of f)) (sym c.as_slice-place-items.ensures) c.in_ok-places.ensures in
     let one = spot_read f c.as_slice-place-items.result.now (spots_of f) are c.loop-place.place-index _ (omega arith) in
     let least : IsLeast f one.0 c.in-Some.taken =
-    subst (λ o. MatchOption o (HasNone f one.0) (IsLeast f one.0)) c.in-Some.is (c.in_ok-taken.ensures one.0 one.1) in
+    subst (λ o. MatchOption o (HasNone f one.0) (IsLeast f one.0)) c.in-Some.is (c.in_ok-taken.ensures.least one.0 one.1) in
     subst (λ (s : Stmt). IsMerge f s.name c.in-Some.taken) (sym (c.stmt_at.ensures one.0 one.1))
-    (first_found f c.loop-place.place-index one.0 c.in-Some.taken one.2 c.loop-place.invariant least)
+    (first_found f c.loop-place.place-index one.0 c.in-Some.taken one.2 c.loop-place.invariant.none least)
 
 pub loop-place-preserved : goal.loop-place-preserved
 loop-place-preserved c =
@@ -37,11 +37,14 @@ loop-place-preserved c =
     let are = subst (λ l. ArePlaces f l (spots_of f)) (sym c.as_slice-place-items.ensures) c.in_ok-places.ensures in
     let one = spot_read f c.as_slice-place-items.result.now (spots_of f) are c.loop-place.place-index _ (omega arith) in
     let none : HasNone f one.0 =
-    subst (λ o. MatchOption o (HasNone f one.0) (IsLeast f one.0)) c.in_default.is (c.in_ok-taken.ensures one.0 one.1) in
-    none_so_far f c.loop-place.place-index one.0 one.2 c.loop-place.invariant none
+    subst (λ o. MatchOption o (HasNone f one.0) (IsLeast f one.0)) c.in_default.is (c.in_ok-taken.ensures.least one.0 one.1) in
+    record {
+      reading = c.in_ok-taken.ensures.reading;
+      none = none_so_far f c.loop-place.place-index one.0 one.2 c.loop-place.invariant.none none;
+    }
 
 pub returns : goal.returns
 returns c =
     let f = c.args.function.now in
     let are = subst (λ l. ArePlaces f l (spots_of f)) (sym c.as_slice-place-items.ensures) c.in_ok-places.ensures in
-    subst (AllByRecursion (HasNone f)) (as_many f c.as_slice-place-items.result.now (spots_of f) are c.loop-place.place-index (omega arith)) c.loop-place.invariant
+    subst (AllByRecursion (HasNone f)) (as_many f c.as_slice-place-items.result.now (spots_of f) are c.loop-place.place-index (omega arith)) c.loop-place.invariant.none

@@ -11,6 +11,11 @@ use Rattle.value_numbers.specs.Spots.{spots_of}
 use Rattle.value_numbers.proofs.MergedFunctions.{merged_is_valid, fewer_after_merge, merge_keeps_all_runs}
 use Rattle.value_numbers.proofs.numbering.number.Goals as goal
 
+pub merge-requires-clause-merge : goal.merge-requires-clause-merge
+merge-requires-clause-merge c =
+    let f = c.loop-merges.function in
+    subst (λ o. MatchOption o (AllByRecursion (HasNone f) (spots_of f)) (λ (pair : ℕ × ℕ). IsMerge f pair.0 pair.1)) c.in-Some.is c.in_ok-name.ensures
+
 pub loop-merges-smaller : goal.loop-merges-smaller
 loop-merges-smaller c =
     let f = c.loop-merges.function in
