@@ -20,7 +20,7 @@ use Rattle.gim_ast.specs.WellFormed.{is_assigned, is_among, entry_has_no_phi, ph
 use Rattle.gim_ast.specs.Paths.{Stretch, stretch_of, flow_of, entry_of, stretch_at, Path, enter, item, jump}
 use Rattle.gim_ast.specs.Readable.{names_among, read_for, is_initial}
 use Rattle.gim_changes.specs.Trimming.{stands_in}
-use Rattle.gim_changes.proofs.Members.{first_or, IsMember, all_members, all_from_members, member_cases, member_left, member_right, member_middle, member_filtered, filtered_member, member_mapped, mapped_member, member_of_parts, part_member}
+use Rattle.gim_changes.proofs.Members.{first_or, IsMember, all_members, all_from_members, member_cases, member_right, member_middle, member_filtered, filtered_member, member_mapped, mapped_member, member_of_parts, part_member}
 use Rattle.gim_changes.proofs.DistinctNumbers.{AreDistinct, distinct_from, distinct_back, distinct_front, distinct_filtered, not_in_both, not_later}
 use Rattle.gim_changes.proofs.FilteredLists.{fewer_filtered}
 use Rattle.gim_changes.proofs.NamesRead.{IsReadIn, by_phi, by_stmt, by_end}

@@ -1,5 +1,5 @@
 -- A search along jumps that looks on from one block after another, until none waits.
-use Rattle.std.proofs.Common.{◌≡◌, ℕ, ◌+◌, ◌<◌, ◌≤◌, Bool, true, false, cond, not, ◌&&◌, Option, Some, None, is_some, List, [], ◌∷◌, ◌++◌, ◌⊎◌, length, eqb, refl, sym, ap, ◌∙◌, subst, inl, inr, ⊎_elim, arith}
+use Rattle.std.proofs.Common.{◌≡◌, ℕ, ◌+◌, ◌<◌, ◌≤◌, Bool, true, false, cond, not, ◌&&◌, ◌||◌, Option, Some, None, is_some, List, [], ◌∷◌, ◌++◌, ◌⊎◌, length, eqb, refl, sym, ap, ◌∙◌, subst, inl, inr, ⊎_elim, arith}
 use Rattle.std.specs.Prelude.{find}
 use Rattle.std.specs.Option.{option_map_or}
 use Rattle.std.specs.List.{AllByRecursion}
@@ -13,7 +13,7 @@ use Rattle.gim_ast.specs.WellFormed.{is_among}
 use Rattle.cfg_tidy.specs.declared.reaching.Reach.{Reach}
 use Rattle.cfg_tidy.specs.Reached.{leads_to, IsReached, entry, jump}
 use Rattle.cfg_tidy.specs.Tidying.{AllReached, IsFirstUnreached}
-use Rattle.cfg_tidy.specs.Search.{block_is, is_there, is_new, is_unfound, count_unfound, entry_numbers, remaining, Adds, TellsReached}
+use Rattle.cfg_tidy.specs.Search.{block_is, is_there, is_new, is_unfound, count_unfound, entry_numbers, remaining, Adds, HasNumbers, TellsReached}
 
 pub found_first : {X : Type 0} (p : X → Bool) (xs : List X) → find p xs ≡ first_where p xs
 found_first p [] = refl
@@ -78,8 +78,8 @@ fewer_unfound n found (block ∷ blocks) new there = by (fewer_unfound n found b
 
 -- ---- steps
 
-pub adds_none : (blocks : List Block) (s : Reach) → Adds blocks [] s s
-adds_none blocks s = record {
+pub adds_none : (blocks : List Block) (s : Reach) → HasNumbers s.set s.found → Adds blocks [] s s
+adds_none blocks s indexed = record {
   keeps = λ q h. h;
   adds = λ q h there. absurd (none_among q h);
   only = λ q h. inl h;
@@ -87,6 +87,7 @@ adds_none blocks s = record {
   only_waits = λ q h. inl h;
   still_waits = λ q h. h;
   costs = omega arith;
+  indexed = indexed;
 }
 
 pub adds_more : (blocks : List Block) (xs ys : List ℕ) (a b c : Reach) → Adds blocks xs a b → Adds blocks ys b c → Adds blocks (xs ++ ys) a c
@@ -107,11 +108,25 @@ adds_more blocks xs ys a b c first second = record {
       (second.only_waits q h);
   still_waits = λ q h. second.still_waits q (first.still_waits q h);
   costs = (let one = first.costs in let two = second.costs in omega arith);
+  indexed = second.indexed;
 }
 
+either : (a old was : Bool) → old ≡ was → cond a true old ≡ (was || (a || false))
+either true old true is = refl
+either true old false is = refl
+either false old true is = is
+either false old false is = is
+
+-- the set has one more number, and so has the list
+pub indexed_more : (n : ℕ) (numbers more : List ℕ) (had has : ℕ → Bool) → ((q : ℕ) → has q ≡ cond (eqb n q) true (had q)) → ((q : ℕ) → had q ≡ is_among q numbers) →
+    more ≡ numbers ++ n ∷ [] → (q : ℕ) → has q ≡ is_among q more
+indexed_more n numbers more had has updates indexed is q =
+    updates q ∙ (either (eqb n q) (had q) (is_among q numbers) (indexed q)
+    ∙ (sym (list_any-append (λ m. eqb m q) numbers (n ∷ [])) ∙ ap (is_among q) (sym is)))
+
 -- nothing is added where the number isn't new
-pub adds_old : (blocks : List Block) (n : ℕ) (s : Reach) → is_new blocks s n ≡ false → Adds blocks (n ∷ []) s s
-adds_old blocks n s old = record {
+pub adds_old : (blocks : List Block) (n : ℕ) (s : Reach) → is_new blocks s n ≡ false → HasNumbers s.set s.found → Adds blocks (n ∷ []) s s
+adds_old blocks n s old indexed = record {
   keeps = λ q h. h;
   adds = λ q h there. by (is_among n s.found) refl q (alone q n h) there;
   only = λ q h. inl h;
@@ -119,6 +134,7 @@ adds_old blocks n s old = record {
   only_waits = λ q h. inl h;
   still_waits = λ q h. h;
   costs = omega arith;
+  indexed = indexed;
 }
   where
     by : (b : Bool) → is_among n s.found ≡ b → (q : ℕ) → n ≡ q → is_there blocks q ≡ true → is_among q s.found ≡ true
@@ -127,8 +143,8 @@ adds_old blocks n s old = record {
         (ap (λ b. not b && is_there blocks n) is ∙ subst (λ m. is_there blocks m ≡ true) (sym same) there))
 
 pub adds_new : (blocks : List Block) (n : ℕ) (s t : Reach) → is_new blocks s n ≡ true → t.found ≡ s.found ++ n ∷ [] →
-    t.waiting ≡ s.waiting ++ n ∷ [] → Adds blocks (n ∷ []) s t
-adds_new blocks n s t new found waiting = record {
+    t.waiting ≡ s.waiting ++ n ∷ [] → HasNumbers t.set t.found → Adds blocks (n ∷ []) s t
+adds_new blocks n s t new found waiting indexed = record {
   keeps = λ q h. subst (λ l. is_among q l ≡ true) (sym found) (among_left q s.found (n ∷ []) h);
   adds = λ q h there. subst (λ l. is_among q l ≡ true) (sym found) (among_right q s.found (n ∷ []) h);
   only = λ q h. among_parts q s.found (n ∷ []) (subst (λ l. is_among q l ≡ true) found h);
@@ -141,6 +157,7 @@ adds_new blocks n s t new found waiting = record {
       let fewer = fewer_unfound n s.found blocks (not-true _ parts.0) parts.1 in
       let long : length (s.waiting ++ n ∷ []) ≡ length s.waiting + 1 = length-append s.waiting (n ∷ []) in
       rw (found, waiting) (omega (arith, fewer, long)));
+  indexed = indexed;
 }
 
 -- ---- the whole search
@@ -152,6 +169,7 @@ pub record IsSearching (blocks : List Block) (s : Reach) : Type 0 where
   pub settled : (q : ℕ) → is_among q s.found ≡ true → (is_among q s.waiting ≡ true) ⊎
       ((r : ℕ) → is_among r (leads_to blocks q) ≡ true → is_there blocks r ≡ true → is_among r s.found ≡ true)
   pub began : (q : ℕ) → is_among q (entry_numbers blocks) ≡ true → is_there blocks q ≡ true → is_among q s.found ≡ true
+  pub indexed : HasNumbers s.set s.found
 
 entries_reached : (blocks : List Block) (q : ℕ) → is_among q (entry_numbers blocks) ≡ true → IsReached blocks q
 entries_reached [] q h = absurd (none_among q h)
@@ -163,6 +181,7 @@ searching_begins blocks s t none idle adds = record {
   found_first = λ q h. ⊎_elim (λ before. absurd (still q before)) (λ here. here) (adds.only_waits q h);
   settled = λ q h. ⊎_elim (λ before. absurd (empty q before)) (λ waits. inl waits) (adds.waits q h);
   began = adds.adds;
+  indexed = adds.indexed;
 }
   where
     empty : (q : ℕ) → is_among q s.found ≡ true → ⊥
@@ -187,6 +206,7 @@ searching_goes_on blocks s t u n searching waiting found adds = record {
       (λ waits. inl waits)
       (adds.waits q h);
   began = λ q h is. adds.keeps q (there q (searching.began q h is));
+  indexed = adds.indexed;
 }
   where
     there : (q : ℕ) → is_among q s.found ≡ true → is_among q t.found ≡ true
@@ -218,7 +238,7 @@ leads_from_there blocks m n leads = by (first_where (block_is m) blocks) leads
     by (Some block) leads = refl
 
 pub searching_ends : (blocks : List Block) (s : Reach) → IsSearching blocks s → s.waiting ≡ [] → TellsReached blocks s
-searching_ends blocks s searching idle = record { sound = searching.sound; complete = complete }
+searching_ends blocks s searching idle = record { sound = searching.sound; complete = complete; indexed = searching.indexed }
   where
     complete : (q : ℕ) → IsReached blocks q → is_there blocks q ≡ true → is_among q s.found ≡ true
     complete _ (entry first rest is) there = searching.began first.number

@@ -1,6 +1,5 @@
 -- What is reached where a block that isn't goes, and where a phi goes: the same as before.
 use Rattle.std.proofs.Common.{◌≡◌, ℕ, Bool, true, false, cond, not, Option, Some, None, is_some, List, [], ◌∷◌, map, filter, eqb, refl, sym, ap, subst, ◌∙◌}
-use Rattle.std.specs.List.{AllByRecursion}
 use Rattle.std.specs.Option.{option_map, option_map_or}
 use Rattle.std.proofs.lemmas.Bool.{both_ways, eqb-true, ne_eqb, not-true, eq-eqb}
 use Rattle.std.proofs.lemmas.Option.{none-some}
@@ -17,7 +16,7 @@ use Rattle.gim_changes.proofs.Members.{first_or, member_mapped, member_filtered}
 use Rattle.gim_changes.proofs.RulesOfNames.{first_passes}
 use Rattle.gim_meaning.proofs.ListSearch.{first_of_changed}
 use Rattle.cfg_tidy.specs.declared.reaching.Reach.{Reach}
-use Rattle.cfg_tidy.specs.Branches.{known_target, branch_of, first_branch}
+use Rattle.cfg_tidy.specs.Branches.{known_target, first_branch}
 use Rattle.cfg_tidy.specs.Phis.{replaced}
 use Rattle.cfg_tidy.specs.Reached.{leads_to, IsReached, entry, jump}
 use Rattle.cfg_tidy.specs.Removal.{block_stays, without_args, dropped}
@@ -92,6 +91,7 @@ module _ (n : ℕ) where
     still_tells s tells = record {
       sound = λ q among. reached_after q (tells.sound q among);
       complete = λ q reached there. let was = reached_before q reached in tells.complete q was (there_before q (other_number q was) there);
+      indexed = tells.indexed;
     }
 
   still_no_branch : (blocks : List Block) → first_branch blocks ≡ None → first_branch (left blocks) ≡ None

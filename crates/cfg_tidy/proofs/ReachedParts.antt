@@ -1,15 +1,14 @@
 -- What is left without the blocks that nothing reaches is valid after any changes of a valid function.
-use Rattle.std.proofs.Common.{◌≡◌, ℕ, Bool, true, cond, not, Option, List, [], ◌∷◌, map, filter, eqb, refl, sym, ap, subst, ◌∙◌}
-use Rattle.std.specs.List.{AllByRecursion}
+use Rattle.std.proofs.Common.{◌≡◌, ℕ, Bool, true, cond, not, Option, List, [], ◌∷◌, map, filter, eqb, refl, sym, ap, subst}
 use Rattle.std.specs.Option.{option_map_or}
 use Rattle.std.proofs.lemmas.Bool.{eqb-true, false_from_ne_true}
 use Rattle.gim_ast.specs.declared.function.Function.{Function}
 use Rattle.gim_ast.specs.declared.function.Block.{Block}
-use Rattle.gim_ast.specs.Functions.{assigned, operands_of, targets_of, first_where}
+use Rattle.gim_ast.specs.Functions.{assigned, operands_of, targets_of}
 use Rattle.gim_ast.specs.WellFormed.{is_among}
 use Rattle.gim_ast.specs.Readable.{IsValid}
 use Rattle.gim_changes.specs.Trimming.{trimmed}
-use Rattle.gim_changes.proofs.Members.{each_member, each_from_members, member_filtered, filtered_member, member_mapped, mapped_member}
+use Rattle.gim_changes.proofs.Members.{each_member, each_from_members, filtered_member, mapped_member}
 use Rattle.gim_changes.proofs.RulesOfNames.{among_member, first_passes}
 use Rattle.gim_changes.proofs.ChangedBlocks.{with_blocks}
 use Rattle.cfg_tidy.specs.declared.change.Change.{Change}
@@ -18,7 +17,6 @@ use Rattle.cfg_tidy.specs.Reached as reached
 use Rattle.cfg_tidy.specs.Reached.{IsReached}
 use Rattle.cfg_tidy.specs.Tidying.{AllReached, Becomes}
 use Rattle.cfg_tidy.proofs.ReachedPaths.{member_is_found, leads_from}
-use Rattle.cfg_tidy.proofs.SoundFunctions.{IsSound}
 use Rattle.cfg_tidy.proofs.SoundChanges.{sound_left}
 use Rattle.cfg_tidy.proofs.TidiedIsValid.{with_names, still_same, HasSoundForm, valid_form, changes_keep_form, form_of_valid}
 

@@ -2,7 +2,7 @@
 use Rattle.std.proofs.Common.{◌≡◌, ◌⊎◌, ℕ, ◌<◌, Bool, true, false, cond, not, ◌&&◌, List, [], ◌∷◌, ◌++◌, map, flat_map, eqb, refl, sym, ap, subst, ◌∙◌, inl, inr, ⊎_elim, arith, append_assoc}
 use Rattle.std.specs.Prelude.{nat_lt}
 use Rattle.std.specs.Bool.{IsTrue}
-use Rattle.std.specs.List.{list_any, list_all}
+use Rattle.std.specs.List.{list_all}
 use Rattle.std.proofs.lemmas.Bool.{and_parts, and_from, both_ways, ltb-true}
 use Rattle.std.proofs.lemmas.List.{append-nil, map-append}
 use Rattle.pm_wide.specs.declared.operand.Operand.{Operand}
@@ -25,7 +25,7 @@ use Rattle.gim_changes.proofs.GoodOperands.{name_among}
 use Rattle.gim_changes.proofs.AlwaysAssigned.{AreUsesAssigned, uses_assigned}
 use Rattle.gim_changes.proofs.ComesBefore.{none_in_own_support}
 use Rattle.gim_changes.proofs.ChangedBlocks.{none_of_empty, used_in_block}
-use Rattle.gim_changes.proofs.ReadyToTrim.{has_row, MayStay, IsReadyToTrim, trimmed_valid}
+use Rattle.gim_changes.proofs.ReadyToTrim.{has_row, IsReadyToTrim, trimmed_valid}
 use Rattle.cfg_tidy.specs.Reached.{IsReached, entry, jump}
 use Rattle.cfg_tidy.specs.Tidying.{AllReached}
 use Rattle.cfg_tidy.proofs.ReachedPaths.{member_is_found, goes_through, head_path, leads_from}

@@ -1,9 +1,7 @@
 -- A valid function is valid once it is tidied, and its runs are as before: what stands between the two has a sound form at each moment.
-use Rattle.std.proofs.Common.{◌≡◌, ◌⊎◌, ℕ, Bool, true, false, cond, ◌||◌, Some, List, [], ◌∷◌, ◌++◌, map, filter, flat_map, eqb, refl, sym, ap, subst, ◌∙◌, inl, inr, ⊎_elim, Result, Ok, Err}
+use Rattle.std.proofs.Common.{◌≡◌, ◌⊎◌, ℕ, Bool, true, false, cond, Some, List, [], ◌∷◌, ◌++◌, map, filter, flat_map, refl, sym, ap, subst, ◌∙◌, inl, inr, ⊎_elim, Result, Ok, Err}
 use Rattle.std.specs.Prelude.{IfOk}
-use Rattle.std.proofs.lemmas.Bool.{or_cases, or_left, or_right, both_ways}
 use Rattle.pm_wide.specs.declared.operand.Operand.{Operand}
-use Rattle.pm_wide.specs.declared.operand.Operand.TheVariants.{Name, Const}
 use Rattle.gim_ast.specs.declared.function.Function.{Function}
 use Rattle.gim_ast.specs.declared.function.Block.{Block}
 use Rattle.gim_ast.specs.declared.function.Phi.{Phi}
@@ -34,7 +32,7 @@ use Rattle.cfg_tidy.specs.Branches.{first_branch, branched}
 use Rattle.cfg_tidy.specs.Phis.{first_copy, replaced}
 use Rattle.cfg_tidy.specs.Reached.{IsReached}
 use Rattle.cfg_tidy.specs.Removal.{dropped}
-use Rattle.cfg_tidy.specs.Tidying.{branch, drop, phi, Makes, Becomes, same, then_on, AllReached, IsTidied}
+use Rattle.cfg_tidy.specs.Tidying.{branch, drop, phi, Becomes, same, then_on, AllReached, IsTidied}
 use Rattle.cfg_tidy.proofs.CopyPhis.{copy_stays_valid}
 use Rattle.cfg_tidy.proofs.FirstCopy.{copy_at}
 use Rattle.cfg_tidy.proofs.SoundFunctions.{IsSound, sound_where_valid, valid_where_reached}

@@ -1,9 +1,9 @@
 -- One change after another, and what is noted of them.
-use Rattle.std.proofs.Common.{◌≡◌, ℕ, ◌≤◌, suc, List, [], ◌∷◌, ◌++◌, length, refl, sym, ap, subst, ◌∙◌, arith, append_assoc, append-nil, length-append, Result, Ok, Err}
+use Rattle.std.proofs.Common.{◌≡◌, ◌≤◌, List, [], ◌∷◌, ◌++◌, length, refl, sym, ap, subst, ◌∙◌, arith, append_assoc, append-nil, length-append, Result, Ok, Err}
 use Rattle.std.specs.Prelude.{OnOk}
 use Rattle.gim_ast.specs.declared.function.Function.{Function}
 use Rattle.cfg_tidy.specs.declared.change.Change.{Change}
-use Rattle.cfg_tidy.specs.Rounds.{Extends, IsSettled, MakesBranches, Settles}
+use Rattle.cfg_tidy.specs.Rounds.{Extends, MakesBranches, Settles}
 use Rattle.cfg_tidy.specs.Tidying.{AllReached, Makes, Becomes, same, then_on}
 use Rattle.cfg_tidy.proofs.Sizes.{size_of, smaller}
 

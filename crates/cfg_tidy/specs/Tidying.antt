@@ -1,5 +1,5 @@
 -- Tidying the control flow: a list of changes, each the first that is possible, until none is.
-use Rattle.std.specs.Prelude.{◌≡◌, ℕ, Option, Some, None, List, [], ◌∷◌, ◌++◌}
+use Rattle.std.specs.Prelude.{◌≡◌, ℕ, Some, None, List, [], ◌∷◌, ◌++◌}
 use Rattle.std.specs.List.{AllByRecursion}
 use Rattle.pm_wide.specs.declared.operand.Operand.{Operand}
 use Rattle.gim_ast.specs.declared.function.Function.{Function}

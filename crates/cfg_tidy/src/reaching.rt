@@ -6,18 +6,21 @@ ghost use Rattle.gim_ast.specs.Functions.{targets_of};
 ghost use Rattle.gim_ast.specs.WellFormed.{is_among};
 ghost use Rattle.cfg_tidy.specs.Reached.{leads_to};
 ghost use Rattle.cfg_tidy.specs.Search as search;
-ghost use Rattle.cfg_tidy.specs.Search.{remaining, block_is, is_unfound, entry_numbers, Adds, TellsReached};
+ghost use Rattle.cfg_tidy.specs.Search.{remaining, block_is, is_unfound, entry_numbers, Adds, HasNumbers, TellsReached};
 ghost use Rattle.cfg_tidy.specs.Tidying.{AllReached, IsFirstUnreached};
 
 use gim_ast::{Block, End};
 use pm_items::Items;
 use pm_ops::OutOfMemory;
 use std::alloc::Global;
+use std::collections::HashSet;
 
-/// The numbers of the blocks that are found, and of those from which the search has to look on.
+/// The numbers of the blocks that are found, in their order and as a set, and of those from which the search has to look
+/// on.
 #[derive(Drop)]
 pub(crate) struct Reach {
     found: Items<u32>,
+    set: HashSet<u32>,
     waiting: Items<u32>,
 }
 
@@ -26,13 +29,6 @@ fn block_at(blocks: &[Block], number: u32) -> Option<&Block>
     ensures { option_copied result ≡ find (block_is number) blocks.now }
 {
     blocks.iter().find(|block| block.number == number)
-}
-
-/// Whether a number is among others.
-fn is_in(numbers: &[u32], number: u32) -> bool
-    ensures { result ≡ is_among number numbers.now }
-{
-    numbers.iter().any(|other| *other == number)
 }
 
 /// Whether there is a block of the number.
@@ -44,19 +40,30 @@ fn is_there(blocks: &[Block], number: u32) -> bool
 }
 
 impl Reach {
+    /// Whether the number is found.
+    fn has(&self, number: u32) -> bool
+        requires { HasNumbers self.now.set self.now.found }
+        ensures { result ≡ is_among number self.now.found }
+    {
+        self.set.contains(&number)
+    }
+
     /// Whether the number is not found, and there is a block of it.
     fn is_new(&self, blocks: &[Block], number: u32) -> bool
+        requires { HasNumbers self.now.set self.now.found }
         ensures { result ≡ search.is_new blocks.now self.now number }
     {
-        !is_in(self.found.as_slice(), number) && is_there(blocks, number)
+        !self.has(number) && is_there(blocks, number)
     }
 
     /// Finds the block of a number, if there is one.
     fn add(&mut self, blocks: &[Block], number: u32) -> Result<(), OutOfMemory>
+        requires { HasNumbers self.old.set self.old.found }
         ensures { OnOk result (Adds blocks.now (number ∷ []) self.old self.new) }
     {
         if self.is_new(blocks, number) {
             self.found.push(number)?;
+            self.set.insert(number)?;
             self.waiting.push(number)?;
         }
         Ok(())
@@ -64,6 +71,7 @@ impl Reach {
 
     /// Finds the blocks that an end leads to.
     fn add_targets(&mut self, blocks: &[Block], end: &End) -> Result<(), OutOfMemory>
+        requires { HasNumbers self.old.set self.old.found }
         ensures { OnOk result (Adds blocks.now (targets_of end.now) self.old self.new) }
     {
         match end {
@@ -78,6 +86,7 @@ impl Reach {
 
     /// Finds the blocks that the block of a number leads to.
     fn look_from(&mut self, blocks: &[Block], number: u32) -> Result<(), OutOfMemory>
+        requires { HasNumbers self.old.set self.old.found }
         ensures { OnOk result (Adds blocks.now (leads_to blocks.now number) self.old self.new) }
     {
         match block_at(blocks, number) {
@@ -88,6 +97,7 @@ impl Reach {
 
     /// Finds the first block.
     fn add_entry(&mut self, blocks: &[Block]) -> Result<(), OutOfMemory>
+        requires { HasNumbers self.old.set self.old.found }
         ensures { OnOk result (Adds blocks.now (entry_numbers blocks.now) self.old self.new) }
     {
         match blocks {
@@ -103,6 +113,7 @@ pub(crate) fn all_reached(alloc: Global, blocks: &[Block]) -> Result<Reach, OutO
 {
     let mut reach = Reach {
         found: Items::new(alloc),
+        set: HashSet::new(alloc),
         waiting: Items::new(alloc),
     };
     reach.add_entry(blocks)?;
@@ -117,15 +128,23 @@ pub(crate) fn first_unfound(blocks: &[Block], reach: &Reach) -> Option<u32>
     requires { TellsReached blocks.now reach.now }
     ensures { MatchOption result (AllReached blocks.now blocks.now) (IsFirstUnreached blocks.now) }
 {
-    match unfound(blocks, reach.found.as_slice()) {
+    match unfound(blocks, reach) {
         Some(block) => Some(block.number),
         None => None,
     }
 }
 
 /// The first block that is not found.
-fn unfound<'a>(blocks: &'a [Block], found: &[u32]) -> Option<&'a Block>
-    ensures { option_copied result ≡ find (is_unfound found.now) blocks.now }
+fn unfound<'a>(blocks: &'a [Block], reach: &Reach) -> Option<&'a Block>
+    requires { HasNumbers reach.now.set reach.now.found }
+    ensures { option_copied result ≡ find (is_unfound reach.now.found) blocks.now }
 {
-    blocks.iter().find(|block| !is_in(found, block.number))
+    let mut rest = blocks;
+    while let [block, more @ ..] = rest {
+        if !reach.has(block.number) {
+            return Some(block);
+        }
+        rest = more;
+    }
+    None
 }
