@@ -1,0 +1,4 @@
+pub mod Counts
+pub mod Leasts
+pub mod Rounds
+pub mod Slots
