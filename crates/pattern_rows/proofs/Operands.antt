@@ -1,5 +1,5 @@
 -- The operands of the operations of a pattern: how many there are, and that they have no choices left.
-use Rattle.std.proofs.Common.{◌≡◌, ◌==◌, ◌&&◌, ℕ, suc, ◌≤◌, Bool, true, false, nat_eq, Option, List, [], ◌∷◌, ◌++◌, map, length, refl, ap, subst, sym, ◌∙◌, append_assoc, arith}
+use Rattle.std.proofs.Common.{◌≡◌, ◌==◌, ◌&&◌, ℕ, suc, ◌≤◌, Bool, true, false, nat_eq, Option, List, [], ◌∷◌, ◌++◌, map, length, refl, ap, sym, ◌∙◌, append_assoc, arith}
 use Rattle.std.proofs.lemmas.Bool.{and_parts, both_ways, eqb-true, eq-eqb, ne_eqb}
 use Rattle.pm_ops.specs.declared.code.Code.{Code}
 use Rattle.pm_ops.specs.Codes.{arity_of}

@@ -4,7 +4,6 @@ use Rattle.pm_ops.specs.declared.code.Code.{Code}
 use Rattle.pm_ops.specs.declared.predicate.Pred.{Pred}
 use Rattle.pm_ops.specs.Codes.{arity_of}
 use Rattle.pd_ast.specs.declared.pattern.Cap.{Cap}
-use Rattle.pd_ast.specs.declared.pattern.Flags.{Flags}
 use Rattle.pd_ast.specs.declared.pattern.OpRef.{OpRef}
 use Rattle.pd_ast.specs.declared.pattern.OpRef.TheVariants as op
 use Rattle.pd_ast.specs.declared.pattern.Pat.{Pat, Pat-F, fold-Pat}

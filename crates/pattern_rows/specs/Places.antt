@@ -1,5 +1,5 @@
 -- Places, and what is asked of them.
-use Rattle.std.specs.Prelude.{ℕ, List, [], ◌∷◌, ◌++◌}
+use Rattle.std.specs.Prelude.{ℕ, [], ◌∷◌, ◌++◌}
 use Rattle.pm_ops.specs.declared.code.Code.{Code}
 use Rattle.pattern_rows.specs.declared.row.Place.{Place}
 use Rattle.pattern_rows.specs.declared.row.Probe.{Probe}

@@ -1,5 +1,5 @@
 -- Counts that follow one another.
-use Rattle.std.proofs.Common.{◌≡◌, ℕ, zero, suc, ◌+◌, ap, sym, ◌∙◌, arith}
+use Rattle.std.proofs.Common.{◌≡◌, ℕ, zero, suc, ◌+◌, ap, ◌∙◌, arith}
 use Rattle.pattern_rows.specs.Counting.{ticked, counted}
 
 pub counted_sum : (count a b : ℕ) → counted (counted count a) b ≡ counted count (a + b)

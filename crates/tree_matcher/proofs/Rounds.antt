@@ -1,10 +1,11 @@
 -- One round of each loop of a scan.
-use Rattle.std.proofs.Common.{◌≡◌, ℕ, zero, suc, ◌+◌, ◌<◌, Bool, true, false, ◌&&◌, cond, Option, Some, None, List, [], ◌∷◌, map, length, take, drop, get_or, refl, sym, ap, subst, ◌∙◌, arith}
+use Rattle.std.proofs.Common.{◌≡◌, ℕ, zero, suc, ◌+◌, ◌<◌, Bool, true, ◌&&◌, cond, Option, Some, None, List, [], ◌∷◌, length, take, drop, get_or, refl, sym, ap, ◌∙◌, arith}
 use Rattle.std.specs.Prelude.{is_some}
 use Rattle.std.specs.List.{list_all}
 use Rattle.std.proofs.lemmas.Bool.{and_parts, and_from}
 use Rattle.pm_ops.specs.Names.{Name}
 use Rattle.pm_wide.specs.declared.operand.Operand.{Operand}
+use Rattle.pattern_rows.proofs.Lists.{left_at}
 use Rattle.pattern_rows.specs.Counting.{ticked, counted}
 use Rattle.pattern_rows.specs.declared.caps.Caps.{Caps}
 use Rattle.pattern_rows.specs.declared.row.Place.{Place}
@@ -14,14 +15,6 @@ use Rattle.pattern_rows.specs.Found.{found, operands_of}
 use Rattle.tree_matcher.specs.Looks.{asked, looks, looks_in, unless_found}
 use Rattle.tree_matcher.specs.Scanning.{first_found, found_or, fits_caps}
 use Rattle.tree_matcher.proofs.Counts.{counted_sum}
-
--- what is left at a place is its element and what is left behind it
-pub left_at : {X : Type 0} (xs : List X) (i : ℕ) (x : X) → i < length xs → x ≡ get_or xs i x → drop i xs ≡ x ∷ drop (i + 1) xs
-left_at [] i x within is = absurd (omega arith)
-left_at (y ∷ ys) zero x within is = ap (λ z. z ∷ ys) (sym is)
-left_at (y ∷ ys) (suc i) x within is =
-    let e : suc (i + 1) ≡ suc i + 1 = omega arith in
-    left_at ys i x (omega arith) is ∙ ap (λ n. x ∷ drop n (y ∷ ys)) e
 
 pub all_left : {X : Type 0} (p : X → Bool) (xs : List X) (n : ℕ) → list_all p xs ≡ true → list_all p (drop n xs) ≡ true
 all_left p xs zero all = all

@@ -1,6 +1,5 @@
 -- Captures that are put into their slots one after another.
-use Rattle.std.proofs.Common.{◌≡◌, ℕ, zero, suc, ◌+◌, ◌-◌, ◌<◌, ◌≤◌, Option, Some, None, List, [], ◌∷◌, ◌++◌, map, length, set, take, get_or, replicate, refl, sym, ap, subst, ◌∙◌, arith}
-use Rattle.std.proofs.lemmas.List.{length-map}
+use Rattle.std.proofs.Common.{◌≡◌, ℕ, zero, suc, ◌+◌, ◌-◌, ◌<◌, ◌≤◌, Option, Some, None, List, [], ◌∷◌, ◌++◌, map, length, set, take, get_or, replicate, refl, sym, ap, ◌∙◌, arith}
 
 -- the element at a place of a list that is filled so far, and empty behind
 pub next_slot : {X Y : Type 0} (f : X → Option Y) (xs : List X) (i left : ℕ) (d : X) → i < length xs

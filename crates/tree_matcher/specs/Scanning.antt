@@ -1,5 +1,5 @@
 -- The least row that holds, above a number.
-use Rattle.std.specs.Prelude.{◌≡◌, ℕ, suc, ◌+◌, ◌-◌, ◌<◌, nat_lt, Bool, Option, Some, None, List, [], ◌∷◌, length, drop, slice_get}
+use Rattle.std.specs.Prelude.{◌≡◌, ℕ, suc, ◌<◌, nat_lt, Bool, Option, Some, None, List, [], ◌∷◌, length, drop, slice_get}
 use Rattle.pm_wide.specs.declared.operand.Operand.{Operand}
 use Rattle.pattern_rows.specs.declared.row.Place.{Place}
 use Rattle.pattern_rows.specs.declared.row.ProbeAt.{ProbeAt}

@@ -1,4 +1,4 @@
-use Rattle.std.proofs.Common.{◌≡◌, ◌<◌, ℕ, Option, Some, length, set, sym, ap, ◌∙◌, arith}
+use Rattle.std.proofs.Common.{◌<◌, Some, length, set, sym, ap, ◌∙◌, arith}
 use Rattle.pm_ops.specs.Names.{Name}
 use Rattle.pattern_rows.specs.declared.row.Place.{Place}
 use Rattle.tree_matcher.proofs.Rounds.{all_round, asked_round}

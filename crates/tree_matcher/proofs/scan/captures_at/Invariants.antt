@@ -1,4 +1,4 @@
-use Rattle.std.proofs.Common.{◌≡◌, ◌-◌, ◌++◌, Option, None, drop, take, replicate}
+use Rattle.std.proofs.Common.{◌≡◌, ◌-◌, ◌++◌, None, drop, take, replicate}
 use Rattle.std.specs.Prelude.{is_some}
 use Rattle.std.specs.List.{list_all}
 use Rattle.pattern_rows.specs.Counting.{counted}

@@ -1,0 +1,4 @@
+pub mod SpotShapes
+pub mod SpotTests
+pub mod Constructed
+pub mod BlockLookups
