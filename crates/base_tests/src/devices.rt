@@ -2,7 +2,9 @@
 ghost use Rattle.std.specs.Prelude.{◌≡◌, ◌+◌, ◌≤◌, ◌++◌, Some, length, IfOk, IsOk, IsErrOf};
 ghost use Rattle.pm_io.specs.NamedFiles.{file_named};
 
-use pm_io::{Failed, FileInputs, ReadFault, StdSink, SureInputs, SureSink, read_all, write_all};
+use pm_io::{
+    Failed, FileInputs, ReadFault, Sink, StdSink, SureInputs, SureSink, read_all, write_all,
+};
 use std::alloc::{AllocError, Global};
 use std::io::Write;
 use std::test::Fail;

@@ -12,13 +12,13 @@ use Rattle.gim_ast.specs.declared.function.Function.{Function}
 use Rattle.gim_ast.specs.declared.function.Block.{Block}
 use Rattle.gim_ast.specs.declared.function.Phi.{Phi}
 use Rattle.gim_ast.specs.declared.function.NameRow.{NameRow}
-use Rattle.gim_ast.specs.Functions.{is_name, same_operand, phi_name, stmt_name, assigned, assigned_in, operands_of, operands_of_phi, block_of, row_of, targets_of}
+use Rattle.gim_ast.specs.Functions.{is_name, same_operand, phi_name, stmt_name, assigned, assigned_in, operands_of, operands_of_phi, block_of, right_of, row_of, targets_of}
 use Rattle.gim_ast.specs.WellFormed.{is_assigned, is_among, operand_holds, phi_fits, type_of}
 use Rattle.gim_ast.specs.Paths.{flow_of, Path}
 use Rattle.gim_ast.specs.Readable.{read_for, is_initial, Supports, IsReadable, IsValid}
 use Rattle.gim_ast.specs.Runs.{entry_of}
 use Rattle.gim_ast.proofs.ReadableLemmas.{support_is_readable}
-use Rattle.gim_changes.specs.Substitution.{put_in_all}
+use Rattle.gim_changes.specs.Substitution.{put_in_phi, put_in_block, put_in_all}
 use Rattle.gim_changes.specs.Trimming.{trimmed}
 use Rattle.gim_changes.specs.Validity.{OperandComesBefore, has_type_of}
 use Rattle.gim_changes.proofs.AssignedBefore.{assigned_where_fresh, assigned_earlier}
@@ -38,11 +38,14 @@ use Rattle.gim_meaning.specs.KeptRuns.{KeepsDefinedRuns}
 use Rattle.gim_meaning.proofs.KeptInARow.{keeps_through}
 use Rattle.gim_meaning.proofs.PathsBack.{came_by}
 use Rattle.gim_meaning.proofs.PhiReading.{has_argument}
-use Rattle.gim_meaning.proofs.PhisOfOneOperand.{one_operand_keeps_runs}
+use Rattle.gim_meaning.proofs.PhiRemovalRuns.{without_runs_alike}
+use Rattle.gim_meaning.proofs.PhisOfOneOperand.{one_operand_keeps_runs, one_operand_runs_alike}
 use Rattle.gim_meaning.proofs.RemovalRuns.{removal_keeps_runs}
+use Rattle.gim_meaning.proofs.RightSides.{HasNoRight, no_right_at_phis}
 use Rattle.gim_meaning.proofs.TrimmingRuns.{trimming_keeps_runs}
 use Rattle.cfg_tidy.specs.Phis.{first_copy, replaced}
 use Rattle.cfg_tidy.specs.Reached.{IsReached}
+use Rattle.cfg_tidy.specs.SameRuns.{RunAlike}
 use Rattle.cfg_tidy.specs.Tidying.{AllReached}
 use Rattle.cfg_tidy.proofs.FirstCopy.{HasOne, copy_at, same_operand_is, reads_only}
 use Rattle.cfg_tidy.proofs.ReachedPaths.{member_is_found, goes_through, head_path}
@@ -178,12 +181,36 @@ module _ (f : Function) (valid : IsValid f) (reached : AllReached f.blocks f.blo
   pub stays_valid : IsValid (trimmed (replaced x by f))
   stays_valid = valid_without x (put_in_all x by f) (valid_with_put x by f valid x_assigned by_holds by_typed by_comes) (unused_where_put x by has.other f)
 
+  put_valid : IsValid (put_in_all x by f)
+  put_valid = valid_with_put x by f valid x_assigned by_holds by_typed by_comes
+
+  put_found : block_of (put_in_all x by f) home.number ≡ Some (put_in_block x by home)
+  unfolding block_of put_in_all
+  put_found = member_is_found (map (put_in_block x by) f.blocks) (ordered (put_in_all x by f) put_valid.well_formed).numbers (put_in_block x by home)
+      (mapped_member (put_in_block x by) home f.blocks one)
+
+  -- no statement assigns the phi's name, also where the operand is put for it
+  no_right_there : right_of (put_in_all x by f) x ≡ None
+  no_right_there = each_member (HasNoRight (put_in_all x by f)) (map (put_in_phi x by) home.phis)
+      (no_right_at_phis (put_in_all x by f) put_valid.well_formed home.number (put_in_block x by home) put_found) (put_in_phi x by phi)
+      (mapped_member (put_in_phi x by) phi home.phis mine)
+
+  pub runs_alike : RunAlike f (replaced x by f)
+  runs_alike args fuel =
+      without_runs_alike x (put_in_all x by f) put_valid.well_formed (unused_where_put x by has.other f) no_right_there args fuel
+      ∙ one_operand_runs_alike f valid home found split.0 phi split.1 split.2 by (reads_only x by phi.args has.all) by_comes args fuel
+
   pub keeps_runs : KeepsDefinedRuns f (trimmed (replaced x by f))
   keeps_runs =
       let put = one_operand_keeps_runs f valid home found split.0 phi split.1 split.2 by (reads_only x by phi.args has.all) by_comes in
       let removed = removal_keeps_runs x (put_in_all x by f) (unused_where_put x by has.other f) in
       keeps_through f (put_in_all x by f) (trimmed (replaced x by f)) put
       (keeps_through (put_in_all x by f) (replaced x by f) (trimmed (replaced x by f)) removed (trimming_keeps_runs (replaced x by f)))
+
+pub copy_runs_alike : (f : Function) (x : ℕ) (by : Operand) → IsValid f → AllReached f.blocks f.blocks → first_copy f.blocks ≡ Some (x, by) → RunAlike f (replaced x by f)
+copy_runs_alike f x by valid reached is =
+    let at = copy_at f.blocks x by is in
+    subst (λ z. RunAlike f (replaced z by f)) at.name (runs_alike f valid reached at.home at.one at.phi at.mine by at.has)
 
 pub copy_stays_valid : (f : Function) (x : ℕ) (by : Operand) → IsValid f → AllReached f.blocks f.blocks → first_copy f.blocks ≡ Some (x, by) → IsValid (trimmed (replaced x by f))
 copy_stays_valid f x by valid reached is =

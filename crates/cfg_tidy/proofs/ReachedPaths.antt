@@ -15,35 +15,39 @@ use Rattle.gim_meaning.proofs.AlongRuns.{stretch_found}
 use Rattle.gim_meaning.proofs.Reached.{number_of_found, found_by_number}
 use Rattle.cfg_tidy.specs.Reached as reached
 
+-- what stands in a list of distinct keys is the first of its key
+pub key_is_found : {X : Type 0} (key : X → ℕ) (xs : List X) → AreDistinct (map key xs) → (x : X) → IsMember x xs →
+    first_where (λ (z : X). eqb (key z) (key x)) xs ≡ Some x
+key_is_found key [] once x one = absurd one
+key_is_found {X} key (y ∷ xs) once x one = ⊎_elim
+    (λ (here : y ≡ x). subst (λ (z : X). cond (eqb (key y) (key z)) (Some y) (first_where (λ (w : X). eqb (key w) (key z)) xs) ≡ Some z) here
+    (ap (λ t. cond t (Some y) (first_where (λ (w : X). eqb (key w) (key y)) xs)) (eq-eqb (key y) (key y) refl)))
+    (λ later. ap (λ t. cond t (Some y) (first_where (λ (w : X). eqb (key w) (key x)) xs))
+    (ne_eqb (key y) (key x) (λ same. not_later (key y) (map key xs) once (subst (λ m. IsMember m (map key xs)) (sym same) (mapped_member key x xs later))))
+    ∙ key_is_found key xs (and_parts _ _ once).1 x later)
+    one
+
 -- a block of distinct numbers is the one of its number
 pub member_is_found : (blocks : List Block) → AreDistinct (map (λ (b : Block). b.number) blocks) → (b : Block) → IsMember b blocks →
     first_where (λ (c : Block). eqb c.number b.number) blocks ≡ Some b
-member_is_found [] once b one = absurd one
-member_is_found (c ∷ blocks) once b one = ⊎_elim
-    (λ (here : c ≡ b). subst (λ (d : Block). cond (eqb c.number d.number) (Some c) (first_where (λ (e : Block). eqb e.number d.number) blocks) ≡ Some d) here
-    (ap (λ t. cond t (Some c) (first_where (λ (e : Block). eqb e.number c.number) blocks)) (eq-eqb c.number c.number refl)))
-    (λ later. ap (λ t. cond t (Some c) (first_where (λ (e : Block). eqb e.number b.number) blocks))
-    (ne_eqb c.number b.number (λ same. not_later c.number (map (λ (d : Block). d.number) blocks) once
-    (subst (λ m. IsMember m (map (λ (d : Block). d.number) blocks)) (sym same) (mapped_member (λ (d : Block). d.number) b blocks later))))
-    ∙ member_is_found blocks (and_parts _ _ once).1 b later)
-    one
+member_is_found = key_is_found (λ (b : Block). b.number)
+
+-- the block that leads on
+pub leads_from : (blocks : List Block) (m n : ℕ) → is_among n (reached.leads_to blocks m) ≡ true →
+    (c : Block) × (first_where (λ (block : Block). eqb block.number m) blocks ≡ Some c) × (is_among n (targets_of c.end) ≡ true)
+leads_from blocks m n leads = by (first_where (λ (block : Block). eqb block.number m) blocks) refl leads
+  where
+    by : (o : Option Block) → first_where (λ (block : Block). eqb block.number m) blocks ≡ o →
+        is_among n (option_map_or (λ (block : Block). targets_of block.end) o []) ≡ true →
+        (c : Block) × (first_where (λ (block : Block). eqb block.number m) blocks ≡ Some c) × (is_among n (targets_of c.end) ≡ true)
+    by None none h = absurd (both_ways false refl h)
+    by (Some c) is h = (c, is, h)
 
 module _ (f : Function) where
   -- a path to a point goes on to a later one of its block
   pub goes_through : (n : ℕ) (front left past : List ℕ) → Path (flow_of f) n (front ++ left) past → (more : List ℕ) × Path (flow_of f) n left more
   goes_through n [] left past path = (past, path)
   goes_through n (x ∷ front) left past path = goes_through n front left (x ∷ past) (item n x (front ++ left) past path)
-
-  -- the block that leads on
-  leads_from : (blocks : List Block) (m n : ℕ) → is_among n (reached.leads_to blocks m) ≡ true →
-      (c : Block) × (first_where (λ (block : Block). eqb block.number m) blocks ≡ Some c) × (is_among n (targets_of c.end) ≡ true)
-  leads_from blocks m n leads = by (first_where (λ (block : Block). eqb block.number m) blocks) refl leads
-    where
-      by : (o : Option Block) → first_where (λ (block : Block). eqb block.number m) blocks ≡ o →
-          is_among n (option_map_or (λ (block : Block). targets_of block.end) o []) ≡ true →
-          (c : Block) × (first_where (λ (block : Block). eqb block.number m) blocks ≡ Some c) × (is_among n (targets_of c.end) ≡ true)
-      by None none h = absurd (both_ways false refl h)
-      by (Some c) is h = (c, is, h)
 
   entry_path : (blocks : List Block) (first : Block) (rest : List Block) → blocks ≡ first ∷ rest → (b : Block) →
       first_where (λ (c : Block). eqb c.number first.number) blocks ≡ Some b → Path (map stretch_of blocks) first.number (assigned_in b) []

@@ -25,15 +25,8 @@ use Rattle.cfg_tidy.proofs.BranchRuns.{branch_runs_alike}
 use Rattle.cfg_tidy.proofs.DroppedRuns.{dropping_runs_alike, entry_reached}
 use Rattle.cfg_tidy.proofs.FirstCopy.{first_some_gives}
 use Rattle.cfg_tidy.proofs.ReachedPaths.{member_is_found}
+use Rattle.cfg_tidy.proofs.SoundFunctions.{numbers, IsInOrder}
 use Rattle.cfg_tidy.proofs.TrimmedRuns.{trimming_runs_alike}
-
-abbrev numbers : List Block → List ℕ
-numbers blocks = map (λ (b : Block). b.number) blocks
-
--- the entry has no phi, and the numbers are distinct
-record IsInOrder (blocks : List Block) : Type 0 where
-  entry : entry_has_no_phi blocks ≡ true
-  apart : AreDistinct (numbers blocks)
 
 still_empty : (b : Bool) (n : ℕ) (phis : List Phi) → is_empty phis ≡ true → is_empty (cond b (map (without_arg n) phis) phis) ≡ true
 still_empty true n [] h = refl
@@ -54,10 +47,10 @@ module _ (n to : ℕ) (end : End) where
   entry_stays [] h = h
   entry_stays (block ∷ blocks) h = still_empty (is_lost end to block.number) n block.phis h
 
-  branch_in_order : (blocks : List Block) → IsInOrder blocks → IsInOrder (map change blocks)
+  pub branch_in_order : (blocks : List Block) → IsInOrder blocks → IsInOrder (map change blocks)
   branch_in_order blocks order = record { entry = entry_stays blocks order.entry; apart = subst AreDistinct (sym (numbers_stay blocks)) order.apart }
 
-first_branch_runs_alike : (f : Function) (n to : ℕ) (end : End) → IsInOrder f.blocks → first_branch f.blocks ≡ Some (n, end, to) → RunAlike f (branched n end to f)
+pub first_branch_runs_alike : (f : Function) (n to : ℕ) (end : End) → IsInOrder f.blocks → first_branch f.blocks ≡ Some (n, end, to) → RunAlike f (branched n end to f)
 unfolding block_of
 first_branch_runs_alike f n to end order is =
     let at = first_some_gives branch_of f.blocks (n, end, to) is in
@@ -105,7 +98,7 @@ module _ (n : ℕ) where
 
 -- ---- any changes but those of phis
 
-alike_through : (f g h : Function) → RunAlike f g → RunAlike g h → RunAlike f h
+pub alike_through : (f g h : Function) → RunAlike f g → RunAlike g h → RunAlike f h
 alike_through f g h first second args fuel = second args fuel ∙ first args fuel
 
 changes_run_alike : (f g : Function) (changes : List Change) → Becomes f changes g → IsInOrder f.blocks → take_no_phi changes ≡ true → RunAlike f g

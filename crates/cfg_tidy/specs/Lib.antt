@@ -1,7 +1,9 @@
 pub mod Branches
+pub mod Kept
 pub mod Phis
 pub mod Reached
 pub mod Removal
+pub mod Rounds
 pub mod SameRuns
 pub mod Search
 pub mod Tidying

@@ -52,8 +52,3 @@ pub record IsTidied (f : Function) (changes : List Change) (g : Function) : Type
   pub becomes : Becomes f changes last
   pub tidy : IsTidy last
   pub trimmed : g ≡ trimmed last
-
--- one change at most was made: the first possible one, or none where none is possible
-abbrev pub MakesFirst : Function → Option Change → Function → Type 0
-MakesFirst f (Some first) g = Makes f first g
-MakesFirst f None g = IsTidy f × (g ≡ f)

@@ -16,7 +16,7 @@ use std::alloc::Global;
 
 /// The numbers of the blocks that are found, and of those from which the search has to look on.
 #[derive(Drop)]
-struct Reach {
+pub(crate) struct Reach {
     found: Items<u32>,
     waiting: Items<u32>,
 }
@@ -98,7 +98,7 @@ impl Reach {
 }
 
 /// Finds all blocks that jumps reach from the entry.
-fn all_reached(alloc: Global, blocks: &[Block]) -> Result<Reach, OutOfMemory>
+pub(crate) fn all_reached(alloc: Global, blocks: &[Block]) -> Result<Reach, OutOfMemory>
     ensures { IfOk result (TellsReached blocks.now) }
 {
     let mut reach = Reach {
@@ -113,7 +113,7 @@ fn all_reached(alloc: Global, blocks: &[Block]) -> Result<Reach, OutOfMemory>
 }
 
 /// The number of the first block that is not found.
-fn first_unfound(blocks: &[Block], reach: &Reach) -> Option<u32>
+pub(crate) fn first_unfound(blocks: &[Block], reach: &Reach) -> Option<u32>
     requires { TellsReached blocks.now reach.now }
     ensures { MatchOption result (AllReached blocks.now blocks.now) (IsFirstUnreached blocks.now) }
 {
@@ -128,12 +128,4 @@ fn unfound<'a>(blocks: &'a [Block], found: &[u32]) -> Option<&'a Block>
     ensures { option_copied result ≡ find (is_unfound found.now) blocks.now }
 {
     blocks.iter().find(|block| !is_in(found, block.number))
-}
-
-/// The number of the first block that jumps don't reach from the entry.
-pub(crate) fn first_unreached(alloc: Global, blocks: &[Block]) -> Result<Option<u32>, OutOfMemory>
-    ensures { IfOk result (λ number. MatchOption number (AllReached blocks.now blocks.now) (IsFirstUnreached blocks.now)) }
-{
-    let reach = all_reached(alloc, blocks)?;
-    Ok(first_unfound(blocks, &reach))
 }

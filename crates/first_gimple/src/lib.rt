@@ -69,4 +69,3 @@ pub fn read(alloc: Global, source: &[u8]) -> Result<Function, FirstFault>
     let draft = reading::draft(alloc, source)?;
     judged(alloc, &draft)
 }
-

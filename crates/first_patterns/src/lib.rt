@@ -12,4 +12,3 @@ mod tokens;
 pub use fault::ReadFault;
 pub use reading::read;
 pub use row::{Row, Side};
-

@@ -13,4 +13,3 @@ mod rules;
 pub use function::{Block, Decl, End, Function, NameRow, Phi, Rhs, Stmt};
 pub use operands::Operands;
 pub use rules::{is_anonymous, is_block_word};
-

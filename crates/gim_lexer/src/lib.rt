@@ -57,4 +57,3 @@ pub fn lex(alloc: Global, source: &[u8]) -> Result<Vec<Token>, GimpleFault>
     }
     Ok(tokens)
 }
-

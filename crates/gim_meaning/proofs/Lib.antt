@@ -1,7 +1,9 @@
 pub mod Agreement
+pub mod AllRunsKept
 pub mod AllowedInsertions
 pub mod AlongRuns
 pub mod BlockOfPlace
+pub mod ExactRuns
 pub mod InsertionRuns
 pub mod KeptInARow
 pub mod ListSearch
@@ -13,6 +15,7 @@ pub mod OperandsStand
 pub mod PartsOfTerms
 pub mod PathsBack
 pub mod PhiReading
+pub mod PhiRemovalRuns
 pub mod PhisOfOneOperand
 pub mod PossibleWords
 pub mod Reached
@@ -27,3 +30,4 @@ pub mod TrimmingRuns
 pub mod TypedWords
 pub mod UnchangedItems
 pub mod UnfoldedTerms
+pub mod UnstuckRemoval

@@ -18,7 +18,8 @@ use Rattle.gim_meaning.proofs.Agreement.{AgreeOn}
 use Rattle.gim_meaning.proofs.ListSearch.{first_of_changed}
 use Rattle.gim_meaning.proofs.Reached.{passed_first, reaches_end}
 
-abbrev way : ℕ → ℕ → Env → Place
+-- on the way from one block to another
+abbrev pub way : ℕ → ℕ → Env → Place
 way from to env = record { from = from; to = to; env = env }
 
 -- g passes these statements to words that agree with those told
@@ -44,7 +45,7 @@ pub record GoesAlike (f g : Function) (change : Block → Block) (Stands : ℕ �
 module _ (f g : Function) (change : Block → Block)
     (numbers : (block : Block) → (change block).number ≡ block.number)
     (blocks : g.blocks ≡ map change f.blocks) where
-  block_changed : (n : ℕ) → block_of g n ≡ option_map change (block_of f n)
+  pub block_changed : (n : ℕ) → block_of g n ≡ option_map change (block_of f n)
   unfolding block_of
   block_changed n =
       ap (first_where (λ (block : Block). block.number == n)) blocks
@@ -52,7 +53,7 @@ module _ (f g : Function) (change : Block → Block)
       (λ (block : Block). block.number == n) change
       (λ block. ap (λ m. m == n) (numbers block)) f.blocks
 
-  entry_changed : entry_of g.blocks ≡ entry_of f.blocks
+  pub entry_changed : entry_of g.blocks ≡ entry_of f.blocks
   entry_changed = ap entry_of blocks ∙ by f.blocks
     where
       by : (all : List Block) → entry_of (map change all) ≡ entry_of all

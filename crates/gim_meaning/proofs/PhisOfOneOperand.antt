@@ -25,7 +25,7 @@ use Rattle.gim_ast.specs.Paths.{stretch_of, flow_of, Path}
 use Rattle.gim_ast.specs.Readable.{names_among, read_for, operand, Fresh, is_initial, IsReadable}
 use Rattle.gim_ast.specs.Readable.{Use, uses_at, uses_in_phis, uses_in_block, uses_in}
 use Rattle.gim_ast.specs.Readable.{IsReadableUse, IsValid}
-use Rattle.gim_ast.specs.Runs.{entry_of, start_of}
+use Rattle.gim_ast.specs.Runs.{entry_of, start_of, run_of}
 use Rattle.gim_ast.specs.Runs.{Env, assign, assign_each, word_of_operand, zero_of, name_type}
 use Rattle.gim_ast.specs.Runs.{phi_word, after_phis, lead_of, To}
 use Rattle.gim_run.specs.Blocks.{phi_pair}
@@ -39,7 +39,6 @@ use Rattle.gim_changes.proofs.RulesOfNames.{IsOrdered, ordered}
 use Rattle.gim_meaning.specs.KeptRuns.{KeepsDefinedRuns}
 use Rattle.gim_meaning.specs.PhiArguments.{ReadsOnly}
 use Rattle.gim_meaning.specs.ReachedPoints.{Inside, Reaches}
-use Rattle.gim_meaning.specs.SameReading.{ReadsAlike}
 use Rattle.gim_meaning.proofs.Agreement.{OperandStands, same_word}
 use Rattle.gim_meaning.proofs.AlongRuns.{passed, Known, known_inside, lead_is_target, stretch_found}
 use Rattle.gim_meaning.proofs.AlongRuns.{start_has_no_phi}
@@ -53,7 +52,7 @@ use Rattle.gim_meaning.proofs.RightSides.{Has, AreDistinct, in_front, front_dist
 use Rattle.gim_meaning.proofs.RightSides.{block_distinct, names_distinct, is_assigned_in}
 use Rattle.gim_meaning.proofs.RightSides.{HasNoRight, no_right_at_phis, right_at}
 use Rattle.gim_meaning.proofs.SubstitutionRuns.{each_of, uses_of_args, uses_of_block}
-use Rattle.gim_meaning.proofs.SubstitutionRuns.{substitution_keeps_runs}
+use Rattle.gim_meaning.proofs.SubstitutionRuns.{ReadsAlikeOn, put_runs_alike}
 use Rattle.gim_meaning.proofs.PathsBack.{came_by, has_splits}
 use Rattle.gim_meaning.proofs.PhiReading.{has_phi, none_named, only_phi, uses_of_phi, named_word}
 use Rattle.gim_meaning.proofs.PhiReading.{named_readable, has_argument}
@@ -404,15 +403,26 @@ module _ (f : Function) (valid : IsValid f) (block : Block)
       (sym has_no_right ∙ ap (right_of f) (sym same)
       ∙ right_at f valid.well_formed home stmt stmts (lies reached))) known)
 
-  at_use : (place : Use) → IsReadableUse f place → ReadsAlike f phi.name by place
-  at_use place readable name args words home stmts e reached at left =
+  at_use : (args : List Word) (place : Use) → IsReadableUse f place →
+      ReadsAlikeOn f phi.name by args place
+  at_use args place readable name home stmts e reached at left =
       let known = word_there args home stmts e reached in
       let there = subst (λ n. IsReadable f phi.name n (map stmt_name stmts)) (sym at)
       (subst (λ l. IsReadable f phi.name place.at l) (sym left)
       (subst (λ y. IsReadable f y place.at place.left) name readable)) in
       sym (known.keeps (fresh_there home.number (map stmt_name stmts) known.past known.path there))
 
+  -- on all arguments each run is as before
+  pub one_operand_runs_alike : (args : List Word) (fuel : ℕ) →
+      run_of (put_in_all phi.name by f) args fuel ≡ run_of f args fuel
+  one_operand_runs_alike args =
+      put_runs_alike f valid.well_formed phi.name by args
+      (each_of (IsReadableUse f) (ReadsAlikeOn f phi.name by args) (at_use args) (uses_in f)
+      valid.readable)
+
   pub one_operand_keeps_runs : KeepsDefinedRuns f (put_in_all phi.name by f)
-  one_operand_keeps_runs =
-      substitution_keeps_runs f valid.well_formed phi.name by
-      (each_of (IsReadableUse f) (ReadsAlike f phi.name by) at_use (uses_in f) valid.readable)
+  unfolding put_in_all
+  one_operand_keeps_runs = record {
+    params = refl;
+    runs = λ args words fuel defined. one_operand_runs_alike args fuel;
+  }

@@ -46,7 +46,7 @@ words_are_possible f args block stmts env well words reached = record {
 
 -- ---- an operand for a name
 
-reads_alike : (f : Function) (x : ℕ) (by : Operand) → IsWellFormed f → (place : Use) →
+pub reads_alike : (f : Function) (x : ℕ) (by : Operand) → IsWellFormed f → (place : Use) →
     AlwaysReadsAlike f x by place → ReadsAlike f x by place
 reads_alike f x by well place always name args words block stmts env reached at left =
     always name env

@@ -14,7 +14,7 @@ use Rattle.gim_ast.specs.declared.function.Phi.{Phi}
 use Rattle.gim_ast.specs.declared.function.Stmt.{Stmt}
 use Rattle.gim_ast.specs.Functions.{is_used, operands_of, operands_of_phi, row_of, assigned}
 use Rattle.gim_ast.specs.Runs.{Env, assign, assign_each, start_env, name_type, phi_word, rhs_value}
-use Rattle.gim_ast.specs.Runs.{pass_stmts, On}
+use Rattle.gim_ast.specs.Runs.{pass_stmts}
 use Rattle.gim_changes.specs.Removal.{phi_stays, stmt_stays, without_in_block, without, last_unused}
 use Rattle.gim_changes.specs.Removal.{unused, last_or, pruned_by, pruned}
 use Rattle.gim_run.specs.Blocks.{phi_pair}
@@ -24,7 +24,7 @@ use Rattle.gim_meaning.specs.KeptRuns.{KeepsDefinedRuns}
 use Rattle.gim_meaning.proofs.Agreement.{AgreeOn, AllStand, OperandStands, agree_assigned}
 use Rattle.gim_meaning.proofs.Agreement.{same_value, same_lead, same_phi_word}
 use Rattle.gim_meaning.proofs.KeptInARow.{keeps_itself, keeps_through}
-use Rattle.gim_meaning.proofs.Lockstep.{PassesAlike, GoesAlike, alike_keeps_runs, passes_alike}
+use Rattle.gim_meaning.proofs.Lockstep.{GoesAlike, StepsAlike, alike_keeps_runs, passes_alike}
 use Rattle.gim_meaning.proofs.Lockstep.{passes_stmt}
 use Rattle.gim_meaning.proofs.OperandsStand.{unused_stand, phis_stand, end_stands, stmt_stands}
 use Rattle.gim_meaning.proofs.ReadableValues.{IsOther, others_agree}
@@ -84,54 +84,50 @@ module _ (x : ℕ) (f : Function) (none : is_used f x ≡ false) where
           (sym word_is) (agree_assigned (IsOther x) now then phi.name w so_far))
 
   module _ (args : List Word) where
-    other_stmts : (block : Block) (e after d : Env) → Reaches f args (Inside block block.stmts e) →
-        pass_stmts f block.stmts e ≡ On after → AgreeOn (IsOther x) e d →
-        PassesAlike (without x f) (IsOther x) after (filter (stmt_stays x) block.stmts) d
-    other_stmts block e after d reached is agree =
-        passes_alike f (without x f) (IsOther x) args block (filter (stmt_stays x)) steps
-        (λ e d reached agree. (d, refl, agree)) block.stmts e after d reached is agree
+    -- what a statement gives doesn't depend on the name
+    pub same_there : (block : Block) (stmt : Stmt) (stmts : List Stmt) (e d : Env) →
+        Reaches f args (Inside block (stmt ∷ stmts) e) → AgreeOn (IsOther x) e d →
+        rhs_value (name_type (without x f) stmt.name) d stmt.rhs
+        ≡ rhs_value (name_type f stmt.name) e stmt.rhs
+    same_there block stmt stmts e d reached agree =
+        ap (λ t. rhs_value t d stmt.rhs) (typed_without stmt.name)
+        ∙ same_value (IsOther x) e d agree (name_type f stmt.name) stmt.rhs
+        (stmt_stands f (IsOther x) all_others block stmt stmts (lies reached))
+
+    pub steps_without : (block : Block) →
+        StepsAlike f (without x f) (IsOther x) args block (filter (stmt_stays x))
+    steps_without block stmt stmts e d w reached agree value = by (eqb stmt.name x) refl
       where
-        steps : (stmt : Stmt) (stmts : List Stmt) (e d : Env) (w : Word) →
-            Reaches f args (Inside block (stmt ∷ stmts) e) → AgreeOn (IsOther x) e d →
-            rhs_value (name_type f stmt.name) e stmt.rhs ≡ Some w →
+        rest : List Stmt
+        rest = filter (stmt_stays x) stmts
+
+        by : (b : Bool) → eqb stmt.name x ≡ b →
             (next : Env) × (pass_stmts (without x f)
-            (filter (stmt_stays x) (stmt ∷ stmts)) d ≡ pass_stmts (without x f)
-            (filter (stmt_stays x) stmts) next) ×
+            (cond (not b) (stmt ∷ rest) rest) d ≡ pass_stmts (without x f) rest next) ×
             AgreeOn (IsOther x) (assign stmt.name w e) next
-        steps stmt stmts e d w reached agree value = by (eqb stmt.name x) refl
-          where
-            rest : List Stmt
-            rest = filter (stmt_stays x) stmts
+        by true is = (
+          d,
+          refl,
+          subst (λ z. AgreeOn (IsOther x) (assign z w e) d)
+              (sym (eqb-true stmt.name x is)) (unseen_assignment e d x w agree),
+        )
+        by false is = (
+          assign stmt.name w d,
+          passes_stmt
+              (without x f) stmt rest d w (same_there block stmt stmts e d reached agree ∙ value),
+          agree_assigned (IsOther x) e d stmt.name w agree,
+        )
 
-            same : rhs_value (name_type (without x f) stmt.name) d stmt.rhs ≡ Some w
-            same = ap (λ t. rhs_value t d stmt.rhs) (typed_without stmt.name)
-                ∙ same_value (IsOther x) e d agree (name_type f stmt.name) stmt.rhs
-                (stmt_stands f (IsOther x) all_others block stmt stmts (lies reached)) ∙ value
-
-            by : (b : Bool) → eqb stmt.name x ≡ b →
-                (next : Env) × (pass_stmts (without x f)
-                (cond (not b) (stmt ∷ rest) rest) d ≡ pass_stmts (without x f) rest next) ×
-                AgreeOn (IsOther x) (assign stmt.name w e) next
-            by true is = (
-              d,
-              refl,
-              subst (λ z. AgreeOn (IsOther x) (assign z w e) d)
-                  (sym (eqb-true stmt.name x is)) (unseen_assignment e d x w agree),
-            )
-            by false is = (
-              assign stmt.name w d,
-              passes_stmt
-                  (without x f) stmt rest d w same,
-              agree_assigned (IsOther x) e d stmt.name w agree,
-            )
-
-    goes_without : GoesAlike f (without x f) (without_in_block x) (IsOther x) args
+    pub goes_without : GoesAlike f (without x f) (without_in_block x) (IsOther x) args
     goes_without = record {
       begins = λ y other. ap (λ (env : Env). env y) (starts_without args);
       phis = λ place block d reached found agree.
           other_phis place.from place.env d agree block.phis
           (phis_stand f (IsOther x) all_others place.to block found) place.env d agree;
-      stmts = other_stmts;
+      stmts = λ block e after d reached is agree.
+          passes_alike f (without x f) (IsOther x) args block (filter (stmt_stays x))
+          (steps_without block) (λ e d reached agree. (d, refl, agree)) block.stmts e after d
+          reached is agree;
       ends = λ block e d reached agree. same_lead (IsOther x) e d agree block.end
           (end_stands f (IsOther x) all_others block.number block (lies reached).found);
     }

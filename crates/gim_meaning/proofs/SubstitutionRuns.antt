@@ -24,7 +24,7 @@ use Rattle.gim_ast.specs.Readable.{Use, names_among, uses_at, uses_in_phi, uses_
 use Rattle.gim_ast.specs.Readable.{uses_in_stmts, uses_in_block, uses_in}
 use Rattle.gim_ast.specs.Runs.{Env, assign, assign_each, start_env, word_of_operand, zero_of}
 use Rattle.gim_ast.specs.Runs.{name_type, phi_word, after_phis, rhs_value, pass_stmts, lead_of, To}
-use Rattle.gim_ast.specs.Runs.{Out, Place, start_of}
+use Rattle.gim_ast.specs.Runs.{Out, Place, start_of, run_of}
 use Rattle.gim_run.specs.Blocks.{phi_pair}
 use Rattle.gim_changes.specs.Substitution.{put, put_in_rhs, put_in_end, put_in_arg, put_in_phi}
 use Rattle.gim_changes.specs.Substitution.{put_in_stmt, put_in_block, put_in_all}
@@ -36,7 +36,8 @@ use Rattle.gim_meaning.specs.SameReading.{ReadsAlike}
 use Rattle.gim_meaning.proofs.AlongRuns.{start_has_no_phi}
 use Rattle.gim_meaning.proofs.Agreement.{AgreeOn, agree_assigned, agree_assigned_each}
 use Rattle.gim_meaning.proofs.ListSearch.{parts_of_found}
-use Rattle.gim_meaning.proofs.Lockstep.{GoesAlike, alike_keeps_runs, passes_alike, passes_stmt}
+use Rattle.gim_meaning.proofs.ExactRuns.{SticksAlike, run_as_before, stuck_alike, sticks_at}
+use Rattle.gim_meaning.proofs.Lockstep.{GoesAlike, StepsAlike, passes_alike, passes_stmt}
 use Rattle.gim_meaning.proofs.OperandsStand.{Any, TypedAlike}
 use Rattle.gim_meaning.proofs.Reached.{lies}
 
@@ -200,8 +201,13 @@ each_of P Q tells (a ∷ xs) all = (tells a all.0, each_of P Q tells xs all.1)
 
 -- ---- the law
 
-module _ (f : Function) (well : IsWellFormed f) (x : ℕ) (by : Operand)
-    (alike : AllByRecursion (ReadsAlike f x by) (uses_in f)) where
+-- at a use of x, whenever the run on these arguments comes there, the operand has the word of x
+abbrev pub ReadsAlikeOn : Function → ℕ → Operand → List Word → Use → Type 0
+ReadsAlikeOn f x by args place = place.name ≡ x → (block : Block) (stmts : List Stmt) (env : Env) →
+    Reaches f args (Inside block stmts env) → block.number ≡ place.at →
+    map stmt_name stmts ≡ place.left → word_of_operand env by ≡ env x
+
+module _ (f : Function) (well : IsWellFormed f) (x : ℕ) (by : Operand) where
   put_typed : (y : ℕ) → TypedAlike f (put_in_all x by f) y
   unfolding name_type row_of put_in_all
   put_typed y = refl
@@ -210,17 +216,20 @@ module _ (f : Function) (well : IsWellFormed f) (x : ℕ) (by : Operand)
   unfolding start_env row_of put_in_all
   put_starts args = refl
 
-  alike_in : (n : ℕ) (block : Block) → block_of f n ≡ Some block →
-      AllByRecursion (ReadsAlike f x by) (uses_in_block block)
-  unfolding block_of
-  alike_in n block found = parts_of_found (λ (b : Block). eqb b.number n)
-      (ReadsAlike f x by) uses_in_block f.blocks block found alike
+  module _ (args : List Word) (alike : AllByRecursion (ReadsAlikeOn f x by args) (uses_in f)) where
+    abbrev Alike : Use → Type 0
+    Alike = ReadsAlikeOn f x by args
 
-  module _ (args : List Word) (words : AreArgumentWords f args) where
-    -- at a point where a run comes
+    alike_in : (n : ℕ) (block : Block) → block_of f n ≡ Some block →
+        AllByRecursion Alike (uses_in_block block)
+    unfolding block_of
+    alike_in n block found = parts_of_found (λ (b : Block). eqb b.number n)
+        Alike uses_in_block f.blocks block found alike
+
+    -- at a point where the run comes
     alike_there : (block : Block) (stmts : List Stmt) (e : Env) →
         Reaches f args (Inside block stmts e) → (n k at : ℕ) → block.number ≡ at → (y : ℕ) →
-        ReadsAlike f x by (record {
+        Alike (record {
           block = n;
           item = k;
           name = y;
@@ -229,61 +238,68 @@ module _ (f : Function) (well : IsWellFormed f) (x : ℕ) (by : Operand)
               map stmt_name stmts;
         }) → y ≡ x → word_of_operand e by ≡ e x
     alike_there block stmts e reached n k at number y reads same =
-        reads same args words block stmts e reached number refl
+        reads same block stmts e reached number refl
 
-    put_step : (block : Block) (stmt : Stmt) (stmts : List Stmt) (e d : Env) (w : Word) →
+    put_same : (block : Block) (stmt : Stmt) (stmts : List Stmt) (e d : Env) →
         Reaches f args (Inside block (stmt ∷ stmts) e) → AgreeOn Any e d →
-        rhs_value (name_type f stmt.name) e stmt.rhs ≡ Some w →
-        (next : Env) × (pass_stmts (put_in_all x by f)
-        (map (put_in_stmt x by) (stmt ∷ stmts)) d ≡ pass_stmts (put_in_all x by f)
-        (map (put_in_stmt x by) stmts) next) ×
-        AgreeOn Any (assign stmt.name w e) next
-    put_step block stmt stmts e d w reached agree value =
+        rhs_value (name_type (put_in_all x by f) stmt.name) d (put_in_rhs x by stmt.rhs)
+        ≡ rhs_value (name_type f stmt.name) e stmt.rhs
+    put_same block stmt stmts e d reached agree =
         let there = lies reached in
         let n = block.number in
-        let uses = (uses_of_block (ReadsAlike f x by) block (alike_in n block there.found)).1 in
-        let own = uses_of_stmt (ReadsAlike f x by) n (1 + length block.phis) there.front stmt stmts
-        (subst (λ ss. AllByRecursion (ReadsAlike f x by)
-        (uses_in_stmts n (1 + length block.phis) ss)) there.is uses) in
-        let among = names_at (ReadsAlike f x by) n own.0 n (map stmt_name (stmt ∷ stmts))
+        let uses = (uses_of_block Alike block (alike_in n block there.found)).1 in
+        let own = uses_of_stmt Alike n (1 + length block.phis) there.front stmt stmts
+        (subst (λ ss. AllByRecursion Alike (uses_in_stmts n (1 + length block.phis) ss)) there.is
+        uses) in
+        let among = names_at Alike n own.0 n (map stmt_name (stmt ∷ stmts))
         (alike_there block (stmt ∷ stmts) e reached n own.0 n refl)
-        (operands_of_stmt stmt) own.1 in (
-          assign stmt.name w d,
-          passes_stmt (put_in_all x by f) (put_in_stmt x by stmt) (map (put_in_stmt x by) stmts) d w
-              (ap (λ t. rhs_value t d (put_in_rhs x by stmt.rhs)) (put_typed stmt.name)
-              ∙ put_value x by e d agree (name_type f stmt.name) stmt.rhs among ∙ value),
-          agree_assigned Any e d stmt.name w agree,
-        )
+        (operands_of_stmt stmt) own.1 in
+        ap (λ t. rhs_value t d (put_in_rhs x by stmt.rhs)) (put_typed stmt.name)
+        ∙ put_value x by e d agree (name_type f stmt.name) stmt.rhs among
+
+    put_steps : (block : Block) →
+        StepsAlike f (put_in_all x by f) Any args block (map (put_in_stmt x by))
+    put_steps block stmt stmts e d w reached agree value = (
+      assign stmt.name w d,
+      passes_stmt (put_in_all x by f) (put_in_stmt x by stmt) (map (put_in_stmt x by) stmts) d w
+          (put_same block stmt stmts e d reached agree ∙ value),
+      agree_assigned Any e d stmt.name w agree,
+    )
+
+    put_sticks : (block : Block) →
+        SticksAlike f (put_in_all x by f) Any args block (map (put_in_stmt x by))
+    put_sticks block stmt stmts e d reached agree none =
+        sticks_at (put_in_all x by f) (put_in_stmt x by stmt) (map (put_in_stmt x by) stmts) d
+        (put_same block stmt stmts e d reached agree ∙ none)
 
     put_ends : (block : Block) (e d : Env) → Reaches f args (Inside block [] e) → AgreeOn Any e d →
         lead_of d (put_in_end x by block.end) ≡ lead_of e block.end
     put_ends block e d reached agree =
         let n = block.number in
         let k = 1 + length block.phis + length block.stmts in
-        let uses = (uses_of_block (ReadsAlike f x by) block
-        (alike_in n block (lies reached).found)).2 in
+        let uses = (uses_of_block Alike block (alike_in n block (lies reached).found)).2 in
         put_lead x by e d agree block.end
-        (names_at (ReadsAlike f x by) n k n [] (alike_there block [] e reached n k n refl)
+        (names_at Alike n k n [] (alike_there block [] e reached n k n refl)
         (operands_of_end block.end) uses)
 
     put_pairs : (before : Block) (e d : Env) → Reaches f args (Inside before [] e) →
         AgreeOn Any e d → (n k : ℕ) (phis : List Phi) →
-        AllByRecursion (ReadsAlike f x by) (uses_in_phis n k phis) →
+        AllByRecursion Alike (uses_in_phis n k phis) →
         map (phi_pair (put_in_all x by f) before.number d) (map (put_in_phi x by) phis) ≡ map
         (phi_pair f before.number e) phis
     put_pairs before e d reached agree n k [] all = refl
     put_pairs before e d reached agree n k (phi ∷ phis) all =
         let from = before.number in
-        let here = uses_of_args (ReadsAlike f x by) n k phi.args
-        (all_left (ReadsAlike f x by) (uses_in_phi n k phi) (uses_in_phis n (k + 1) phis) all)
+        let here = uses_of_args Alike n k phi.args
+        (all_left Alike (uses_in_phi n k phi) (uses_in_phis n (k + 1) phis) all)
         in
         let rest = put_pairs before e d reached agree n (k + 1) phis
-        (all_right (ReadsAlike f x by) (uses_in_phi n k phi) (uses_in_phis n (k + 1) phis) all)
+        (all_right Alike (uses_in_phi n k phi) (uses_in_phis n (k + 1) phis) all)
         in
-        let among = each_of (λ (arg : ℕ × Operand). AllByRecursion (ReadsAlike f x by)
+        let among = each_of (λ (arg : ℕ × Operand). AllByRecursion Alike
         (uses_at n k arg.0 [] (arg.1 ∷ [])))
         (λ (arg : ℕ × Operand). arg.0 ≡ from → AlikeAmong x by e d agree (arg.1 ∷ []))
-        (λ arg uses same. names_at (ReadsAlike f x by) n k arg.0 []
+        (λ arg uses same. names_at Alike n k arg.0 []
         (alike_there before [] e reached n k arg.0 (sym same)) (arg.1 ∷ []) uses) phi.args here
         in
         let word : phi_word (put_in_all x by f) from d
@@ -313,7 +329,7 @@ module _ (f : Function) (well : IsWellFormed f) (x : ℕ) (by : Operand)
             (after_phis (put_in_all x by f) place.from (map (put_in_phi x by) ps) d))
             (sym none) agree
         go (inr came) =
-            let uses = (uses_of_block (ReadsAlike f x by) block (alike_in place.to block found)).0
+            let uses = (uses_of_block Alike block (alike_in place.to block found)).0
             in
             let pairs = put_pairs came.0 place.env d came.2 agree block.number 1 block.phis uses in
             let old = λ (from : ℕ). map (phi_pair f from place.env) block.phis in
@@ -330,12 +346,26 @@ module _ (f : Function) (well : IsWellFormed f) (x : ℕ) (by : Operand)
       phis = put_phis;
       stmts = λ block e after d reached is agree.
           passes_alike f (put_in_all x by f) Any args block (map (put_in_stmt x by))
-          (put_step block) (λ e d reached agree. (d, refl, agree)) block.stmts e after d reached
+          (put_steps block) (λ e d reached agree. (d, refl, agree)) block.stmts e after d reached
           is agree;
       ends = put_ends;
     }
 
-  pub substitution_keeps_runs : KeepsDefinedRuns f (put_in_all x by f)
+    -- on these arguments each run is as before
+    pub put_runs_alike : (fuel : ℕ) → run_of (put_in_all x by f) args fuel ≡ run_of f args fuel
+    unfolding put_in_all
+    put_runs_alike = run_as_before f (put_in_all x by f) (put_in_block x by) (λ block. refl) refl
+        Any args goes_with_put
+        (λ block e d y reached is agree.
+        stuck_alike f (put_in_all x by f) Any args block (map (put_in_stmt x by))
+        (put_steps block) (put_sticks block) y block.stmts e d reached is agree)
+
+  pub substitution_keeps_runs : AllByRecursion (ReadsAlike f x by) (uses_in f) →
+      KeepsDefinedRuns f (put_in_all x by f)
   unfolding put_in_all
-  substitution_keeps_runs = alike_keeps_runs f (put_in_all x by f) (put_in_block x by)
-      (λ block. refl) refl Any refl goes_with_put
+  substitution_keeps_runs alike = record {
+    params = refl;
+    runs = λ args words fuel defined.
+        put_runs_alike args (each_of (ReadsAlike f x by) (ReadsAlikeOn f x by args)
+        (λ place reads name. reads name args words) (uses_in f) alike) fuel;
+  }

@@ -29,10 +29,10 @@ use Rattle.gim_meaning.proofs.RightSides.{Has, in_front, in_back, has_stmt, is_a
 use Rattle.gim_meaning.proofs.UnchangedItems.{same_rest}
 
 module _ (f : Function) where
-  abbrev StandsIn : ℕ → Type 0
+  abbrev pub StandsIn : ℕ → Type 0
   StandsIn y = stands_in f y ≡ true
 
-  operands_stand : AllStand StandsIn (operands_of f)
+  pub operands_stand : AllStand StandsIn (operands_of f)
   operands_stand =
       weaker_stand (λ y. is_used f y ≡ true) StandsIn
       (λ y used. or_right (list_any (λ z. eqb z y) (assigned f)) (is_used f y) used)
@@ -81,7 +81,7 @@ module _ (f : Function) where
   assigned_stands n block found y has = or_left (list_any (λ z. eqb z y) (assigned f)) (is_used f y)
       (is_assigned_in f n block y found has)
 
-  stmt_typed : (block : Block) (stmt : Stmt) (stmts : List Stmt) → Lies f block (stmt ∷ stmts) →
+  pub stmt_typed : (block : Block) (stmt : Stmt) (stmts : List Stmt) → Lies f block (stmt ∷ stmts) →
       TypedAlike f (trimmed f) stmt.name
   stmt_typed block stmt stmts there =
       let has : Has stmt.name (map stmt_name block.stmts) =
@@ -107,7 +107,7 @@ module _ (f : Function) where
             (list_any (eqb y) (map phi_name phis)) has)),
       )
 
-  goes_trimmed : (args : List Word) → GoesAlike f (trimmed f) (λ block. block) StandsIn args
+  pub goes_trimmed : (args : List Word) → GoesAlike f (trimmed f) (λ block. block) StandsIn args
   goes_trimmed args = record {
     begins = starts_trimmed args;
     phis = λ place block d reached found agree.

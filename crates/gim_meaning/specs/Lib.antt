@@ -1,3 +1,4 @@
+pub mod AllRuns
 pub mod KeptRuns
 pub mod PhiArguments
 pub mod PresentValues

@@ -69,4 +69,3 @@ pub fn check_names(
     }
     Ok(())
 }
-

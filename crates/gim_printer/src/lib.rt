@@ -40,4 +40,3 @@ pub fn print(alloc: Global, functions: &[Function]) -> Result<Vec<u8>, OutOfMemo
     }
     Ok(out.into_vec())
 }
-

@@ -100,4 +100,3 @@ fn judge(alloc: Global, source: &[u8], trees: &[FunctionText]) -> Result<(), Gim
     check_types(alloc, source, trees)?;
     check_limits(alloc, source, trees)
 }
-

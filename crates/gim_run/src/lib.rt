@@ -11,4 +11,3 @@ mod steps;
 
 pub use machine::{Machine, prepare};
 pub use runs::Outcome;
-

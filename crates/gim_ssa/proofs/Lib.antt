@@ -10,6 +10,7 @@ pub mod PassedBlocks
 pub mod PlaceLemmas
 pub mod PlacedUses
 pub mod ReachLemmas
+pub mod ReachLookups
 pub mod ReadableUses
 pub mod RisingNumbers
 pub mod SearchLemmas

@@ -9,6 +9,7 @@ pub mod Needs
 pub mod Places
 pub mod Plan
 pub mod Reach
+pub mod Readability
 pub mod Search
 pub mod Standing
 pub mod Uses

@@ -16,7 +16,8 @@ mod marks;
 mod needs;
 mod places;
 mod plan;
-mod reach;
+mod reached;
+mod readability;
 mod rolls;
 mod rows;
 mod search;
@@ -26,6 +27,7 @@ mod walks;
 
 pub use checking::check;
 pub use fault::CheckFault;
+pub use readability::{Reach, Reading};
 
 #[cfg(test)]
 mod tests;

@@ -1,10 +1,15 @@
 use gim_lexer::lex;
-use gim_text::{Keyword, Mark, NumberKind, Token, TypeWord};
+use gim_text::{GimpleFault, GimpleKind, Keyword, Mark, NumberKind, Token, TypeWord};
 use pm_places::Span;
 use std::test::Fail;
 
 fn place(from: usize, to: usize) -> Span {
     Span { from, to }
+}
+
+/// The fault of a place where no token begins.
+fn lex_fault(at: usize) -> GimpleFault {
+    GimpleFault::at(GimpleKind::Lex, place(at, at))
 }
 
 fn mark(mark: Mark, from: usize, to: usize) -> Token {

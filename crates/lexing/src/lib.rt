@@ -23,4 +23,3 @@ pub use quoted::quoted_len;
 pub use separators::{begins_with_space, comment_len};
 pub use tables::{Row, beside, beside_in_any_case};
 pub use words::is_word_text;
-

@@ -133,4 +133,3 @@ pub fn lex(alloc: Global, source: &[u8]) -> Result<Vec<Token>, PatternFault>
     }
     Ok(tokens)
 }
-

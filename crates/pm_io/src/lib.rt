@@ -21,4 +21,3 @@ pub use sinks::{Sink, write_all};
 pub use std_sink::StdSink;
 pub use sure_inputs::SureInputs;
 pub use sure_sink::SureSink;
-

@@ -11,4 +11,3 @@ mod shared;
 pub use boxed::Boxed;
 pub use items::Items;
 pub use shared::Shared;
-

@@ -31,4 +31,3 @@ pub fn line_column(source: &[u8], at: usize) -> (u32, u32)
     }
     (line, column)
 }
-

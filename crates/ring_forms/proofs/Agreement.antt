@@ -86,7 +86,7 @@ module _ (P : Tree → Type 0) (s t : Tree → Tree → Bool) (agree : (a b : Tr
       list_all_agree P (λ a. times_in s a p == times_in s a q) (λ a. times_in t a p == times_in t a q) (λ a i. (λ j. times_agree a p i h j == times_agree a q i g j))
       (p ++ q) (all_append P p q h g)
 
-  coefficient_agree : (p : List Tree) (f : Sum Tree) → AllP p → Factors P f → coefficient s p f ≡ coefficient t p f
+  pub coefficient_agree : (p : List Tree) (f : Sum Tree) → AllP p → Factors P f → coefficient s p f ≡ coefficient t p f
   coefficient_agree p [] h g = refl
   coefficient_agree p (e ∷ es) h g = λ i. cond (product_agree p e.1 h g.0 i) e.0 (pos 0) +ℤ coefficient_agree p es h g.1 i
 

@@ -73,7 +73,7 @@ module _ (words : ℕ → Ty → Word) (given : GivesWords words) where
         by true k f = f (and_parts (is_exact (combined_form 128 code 0 (exacts_over (all_afterwards args r) args))) (all_exact_limited (all_afterwards args r) args) k).1
         by false k f = ordered_full args r.inner w.2 k o
 
-    all_ordered : (ts : Trees) (r : Reading) → AreWellTyped ts → all_exact_limited (all_afterwards ts r) ts ≡ true → OrderedFrom 0 r.inner → OrderedFrom 0 (all_afterwards ts r).inner
+    pub all_ordered : (ts : Trees) (r : Reading) → AreWellTyped ts → all_exact_limited (all_afterwards ts r) ts ≡ true → OrderedFrom 0 r.inner → OrderedFrom 0 (all_afterwards ts r).inner
     all_ordered nil r w l o = o
     all_ordered (cons t ts) r w l o =
         let parts = and_parts (exact_limited (all_afterwards ts (afterwards t r)) t) (all_exact_limited (all_afterwards ts (afterwards t r)) ts) l in
@@ -92,7 +92,7 @@ module _ (words : ℕ → Ty → Word) (given : GivesWords words) where
     abbrev numbers_of : ℕ → ℤ
     numbers_of = at (values_from words [] table)
 
-    words_over : (args : Trees) (ws : List Word) → HasFull table args → AreWellTyped args → full_limited table args ≡ true → term_values words args ≡ Some ws → operand_words numbers_of (operands_over table args) ≡ ws
+    pub words_over : (args : Trees) (ws : List Word) → HasFull table args → AreWellTyped args → full_limited table args ≡ true → term_values words args ≡ Some ws → operand_words numbers_of (operands_over table args) ≡ ws
     words_over args ws h w l e =
         let same = full_closed table args h in
         let read = operand_forms_are args table ∙ (λ i. cond (full_limited (same i) args) (Some (operands_over (same i) args, same i)) None) ∙ ap (λ b. cond b (Some (operands_over table args, table)) None) l in
@@ -119,11 +119,11 @@ module _ (words : ℕ → Ty → Word) (given : GivesWords words) where
 -- ---- what holds of all atoms of a term
 
 module _ (P : Tree → Type 0) where
-  left_of : (xs ys : List Tree) → AllByRecursion P (xs ++ ys) → AllByRecursion P xs
+  pub left_of : (xs ys : List Tree) → AllByRecursion P (xs ++ ys) → AllByRecursion P xs
   left_of [] ys h = tt
   left_of (x ∷ xs) ys h = (h.0, left_of xs ys h.1)
 
-  right_of : (xs ys : List Tree) → AllByRecursion P (xs ++ ys) → AllByRecursion P ys
+  pub right_of : (xs ys : List Tree) → AllByRecursion P (xs ++ ys) → AllByRecursion P ys
   right_of [] ys h = h
   right_of (x ∷ xs) ys h = right_of xs ys h.1
 

@@ -120,7 +120,7 @@ module _ (r : Reading) where
     exact_clean (node code ty args) =
         chosen_clean (goes_exactly code) _ _ (combined_clean 128 code 0 (exacts_over r args) (all_exact_clean args)) (atom_clean 128 (met_number (node code ty args)) (omega arith))
 
-    all_exact_clean : (ts : Trees) → AreClean 128 (exacts_over r ts)
+    pub all_exact_clean : (ts : Trees) → AreClean 128 (exacts_over r ts)
     all_exact_clean nil = tt
     all_exact_clean (cons t ts) = (exact_clean t, all_exact_clean ts)
 
@@ -153,10 +153,10 @@ module _ (r : Reading) where
       let more : length (signed f) * (2 ^ 56 * b) ≤ 64 * (2 ^ 56 * b) = mul-le-mul long (le_refl (2 ^ 56 * b)) in
       subst (λ z. unsigned_abs z ≤ 64 * (2 ^ 56 * b)) (g.totals v) (omega (arith, size, more))
 
-  limited_coefficient : (f : List Part) (s : Sum Tree) → Good f s → (k : List ℕ) → unsigned_abs (total (λ p. hit k (at_numbers p)) s) ≤ 2 ^ 62
+  pub limited_coefficient : (f : List Part) (s : Sum Tree) → Good f s → (k : List ℕ) → unsigned_abs (total (λ p. hit k (at_numbers p)) s) ≤ 2 ^ 62
   limited_coefficient f s g k = let size = limited_total f s g 1 (hit k) (hit_size k) in omega (arith, size)
 
-  negated_bound : (f : List Part) (s : Sum Tree) → Good f s → (k : List ℕ) → unsigned_abs (total (λ p. hit k (at_numbers p)) (negated s)) ≤ 2 ^ 62
+  pub negated_bound : (f : List Part) (s : Sum Tree) → Good f s → (k : List ℕ) → unsigned_abs (total (λ p. hit k (at_numbers p)) (negated s)) ≤ 2 ^ 62
   negated_bound f s g k =
       subst (λ n. n ≤ 2 ^ 62) (sym (ap unsigned_abs (total_negated (λ p. hit k (at_numbers p)) s) ∙ size_negative (total (λ p. hit k (at_numbers p)) s))) (limited_coefficient f s g k)
 

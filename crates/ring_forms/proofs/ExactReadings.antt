@@ -75,7 +75,7 @@ module _ (old new : Reading) (more : Further old new) where
         by true e f = ap (combined_form 128 code 0) (f e)
         by false e f = ap atom_form (kept_atom code ty args (h.1 e).0 (h.1 e).1)
 
-    kept_exacts : (ts : Trees) → AllMet old ts → exacts_over new ts ≡ exacts_over old ts
+    pub kept_exacts : (ts : Trees) → AllMet old ts → exacts_over new ts ≡ exacts_over old ts
     kept_exacts nil h = refl
     kept_exacts (cons t ts) h = λ i. kept_exact t h.0 i ∷ kept_exacts ts h.1 i
 
@@ -92,7 +92,7 @@ module _ (old new : Reading) (more : Further old new) where
       ),
     )
 
-    kept_all_met : (ts : Trees) → AllMet old ts → AllMet new ts
+    pub kept_all_met : (ts : Trees) → AllMet old ts → AllMet new ts
     kept_all_met nil h = tt
     kept_all_met (cons t ts) h = (kept_met t h.0, kept_all_met ts h.1)
 
@@ -109,7 +109,7 @@ module _ (old new : Reading) (more : Further old new) where
         by true e f g = λ i. is_exact (combined_form 128 code 0 (f e i)) && g e i
         by false e f g = full_kept_limited old.inner new.inner more.inner args (h.1 e).1
 
-    kept_all_limited : (ts : Trees) → AllMet old ts → all_exact_limited new ts ≡ all_exact_limited old ts
+    pub kept_all_limited : (ts : Trees) → AllMet old ts → all_exact_limited new ts ≡ all_exact_limited old ts
     kept_all_limited nil h = refl
     kept_all_limited (cons t ts) h = λ i. kept_exact_limited t h.0 i && kept_all_limited ts h.1 i
 
@@ -168,7 +168,7 @@ mutual
       by true e h = (λ f. h, λ f. apart e f)
       by false e h = (λ f. apart f e, λ f. (new_in r.atoms (Operation code ty (operands_over (after_full args r.inner) args)), has_full_after args r.inner))
 
-  all_met_afterwards : (ts : Trees) (r : Reading) → AllMet (all_afterwards ts r) ts
+  pub all_met_afterwards : (ts : Trees) (r : Reading) → AllMet (all_afterwards ts r) ts
   all_met_afterwards nil r = tt
   all_met_afterwards (cons t ts) r =
       (kept_met (afterwards t r) (all_afterwards ts (afterwards t r)) (all_further ts (afterwards t r)) t (met_afterwards t r), all_met_afterwards ts (afterwards t r))
@@ -220,7 +220,7 @@ mutual
           ap (exact_atom code ty (node code ty args) r) (operand_forms_are args r.inner) ∙ at_atom (full_limited (after_full args r.inner) args)
           ∙ (λ i. given (full_limited (after_full args r.inner) args) (atom_form (sym (new_number r.atoms (Operation code ty (operands_over (after_full args r.inner) args))) i)) (with_atom_met code ty args r))
 
-  exact_reads_are : (ts : Trees) (r : Reading) → exact_reads ts r ≡ given (all_exact_limited (all_afterwards ts r) ts) (exacts_over (all_afterwards ts r) ts) (all_afterwards ts r)
+  pub exact_reads_are : (ts : Trees) (r : Reading) → exact_reads ts r ≡ given (all_exact_limited (all_afterwards ts r) ts) (exacts_over (all_afterwards ts r) ts) (all_afterwards ts r)
   exact_reads_are nil r = refl
   exact_reads_are (cons t ts) r =
       let more = all_further ts (afterwards t r) in

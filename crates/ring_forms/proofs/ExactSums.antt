@@ -154,7 +154,7 @@ module _ (number : Tree → ℕ) where
   abbrev pub by_keys : Sum Tree → Sum ℕ
   by_keys s = map (λ e. (e.0, numbers number e.1)) s
 
-  total_by_keys : (v : List ℕ → ℤ) (s : Sum Tree) → total v (by_keys s) ≡ total (λ p. v (numbers number p)) s
+  pub total_by_keys : (v : List ℕ → ℤ) (s : Sum Tree) → total v (by_keys s) ≡ total (λ p. v (numbers number p)) s
   total_by_keys v [] = refl
   total_by_keys v (e ∷ es) = ap (λ x. e.0 *ℤ v (numbers number e.1) +ℤ x) (total_by_keys v es)
 

@@ -52,7 +52,7 @@ module _ (words : ℕ → Ty → Word) (given : GivesWords words) where
       zero_times x = omega (arith, ints)
   each_times (e ∷ es) y = (λ i. sym (mul_assoc e.0 (nodes_value e.1) y) i +ℤ each_times es y i) ∙ sym (add-mul (e.0 *ℤ nodes_value e.1) (sum_value es) y)
 
-  product_sum : (s t : Sum Tree) → sum_value (product s t) ≡ sum_value s *ℤ sum_value t
+  pub product_sum : (s t : Sum Tree) → sum_value (product s t) ≡ sum_value s *ℤ sum_value t
   product_sum s t =
       total_product nodes_value s t ∙ (λ i. total (λ p. total (λ q. nodes_append p q i) t) s)
       ∙ (λ i. total (λ p. times_each (nodes_value p) t i) s) ∙ each_times s (sum_value t)

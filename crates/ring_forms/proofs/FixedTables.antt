@@ -185,6 +185,6 @@ module _ (table : List Atom) where
           chosen_clean (goes_by_parts m code ty args) _ _ (combined_clean m code (unwrap_or (constant_places ty args) 0) (forms_over table m args) (all_clean_over args))
           (atom_clean m (number table (node code ty args)) some)
 
-      all_clean_over : (ts : Trees) → AreClean m (forms_over table m ts)
+      pub all_clean_over : (ts : Trees) → AreClean m (forms_over table m ts)
       all_clean_over nil = tt
       all_clean_over (cons t ts) = (clean_over t, all_clean_over ts)

@@ -29,10 +29,10 @@ use Rattle.ring_forms.proofs.FixedTables.{total, numbers, StandsFor}
 use Rattle.ring_forms.proofs.FormLemmas.{same_numbers, numbers_same}
 use Rattle.ring_forms.proofs.Products.{by_number, same_key}
 
-one_residue : (m : ℕ) (a b : ℤ) → Congruent m a b → residue m a ≡ residue m b
+pub one_residue : (m : ℕ) (a b : ℤ) → Congruent m a b → residue m a ≡ residue m b
 one_residue m a b h = same_word (record { width = m; unsigned = true }) a b h
 
-congruent_residues : (m : ℕ) (a b : ℤ) → residue m a ≡ residue m b → Congruent m a b
+pub congruent_residues : (m : ℕ) (a b : ℤ) → residue m a ≡ residue m b → Congruent m a b
 congruent_residues m a b e = joined m a (pos (residue m b)) b (subst (λ n. Congruent m a (pos n)) e (turned m _ _ (residue_congruent m a))) (residue_congruent m b)
 
 module _ (number : Tree → ℕ) where
@@ -76,10 +76,10 @@ module _ (number : Tree → ℕ) where
 
     -- ---- one form
 
-    abbrev agrees : (s t : Sum Tree) → (k : List ℕ) → Bool
+    abbrev pub agrees : (s t : Sum Tree) → (k : List ℕ) → Bool
     agrees s t k = residue m (numbered k s) == residue m (numbered k t)
 
-    same_form_keys : (s t : Sum Tree) → same_form same_numbered m s t ≡ (list_all (agrees s t) (keys s) && list_all (agrees s t) (keys t))
+    pub same_form_keys : (s t : Sum Tree) → same_form same_numbered m s t ≡ (list_all (agrees s t) (keys s) && list_all (agrees s t) (keys t))
     same_form_keys s t =
         (λ i. list_all (λ p. form_numbered p s i == form_numbered p t i) (products s ++ products t))
         ∙ list_all-append (λ p. residue m (numbered (numbers number p) s) == residue m (numbered (numbers number p) t)) (products s) (products t)
@@ -93,7 +93,7 @@ module _ (number : Tree → ℕ) where
         by true e i j later = ap test (same_numbers k q e) ∙ j
         by false e i j later = later i
 
-    everywhere : (s t : Sum Tree) → list_all (agrees s t) (keys s) ≡ true → list_all (agrees s t) (keys t) ≡ true → (k : List ℕ) → residue m (numbered k s) ≡ residue m (numbered k t)
+    pub everywhere : (s t : Sum Tree) → list_all (agrees s t) (keys s) ≡ true → list_all (agrees s t) (keys t) ≡ true → (k : List ℕ) → residue m (numbered k s) ≡ residue m (numbered k t)
     everywhere s t h g k = by (list_any (pointwise nat_eq k) (keys s)) (list_any (pointwise nat_eq k) (keys t)) refl refl
       where
         equal : agrees s t k ≡ true → residue m (numbered k s) ≡ residue m (numbered k t)
@@ -211,7 +211,7 @@ module _ (number : Tree → ℕ) where
     joined_length [] ys = omega arith
     joined_length (x ∷ xs) ys = let e = joined_length xs (with_atom x ys) in let f = with_atom_length x ys in omega (arith, e, f)
 
-    key_length : (p : List Tree) → length (numbers number p) ≡ length p
+    pub key_length : (p : List Tree) → length (numbers number p) ≡ length p
     key_length p = let e = joined_length (map number p) [] in let f = length_map number p in omega (arith, e, f)
 
     abbrev small : List ℕ → Bool

@@ -2,6 +2,8 @@ pub mod Agreement
 pub mod AtomLemmas
 pub mod CleanForms
 pub mod DepthLaw
+pub mod DifferenceLaw
+pub mod ExactDifferences
 pub mod ExactLaw
 pub mod ExactLimits
 pub mod ExactPolynomials
@@ -19,8 +21,11 @@ pub mod PolynomialLaw
 pub mod Products
 pub mod RankOrder
 pub mod Readings
+pub mod RingDifferenceLaw
+pub mod RingDifferences
 pub mod RingLaw
 pub mod SameAtoms
+pub mod SameSums
 pub mod Tables
 pub mod TermLemmas
 pub mod WholeTotals

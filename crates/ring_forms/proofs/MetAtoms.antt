@@ -143,7 +143,7 @@ module _ (table : List Atom) (depth : ℕ) where
             (kept_has_full (after_full args r.inner) table y args (has_full_after args r.inner), w, o)
             (ap (Operation code ty) (kept_operands (after_full args r.inner) table y args (has_full_after args r.inner)))
 
-    all_told_afterwards : (ts : Trees) (r : Reading) → Extends (all_afterwards ts r).inner table → AreWellTyped ts → operations_of ts < depth → Told r → AllReads ts r
+    pub all_told_afterwards : (ts : Trees) (r : Reading) → Extends (all_afterwards ts r).inner table → AreWellTyped ts → operations_of ts < depth → Told r → AllReads ts r
     all_told_afterwards nil r x w o told = (told, refl)
     all_told_afterwards (cons t ts) r x w o told =
         let more = all_further ts (afterwards t r) in

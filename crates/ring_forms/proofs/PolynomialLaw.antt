@@ -58,7 +58,7 @@ module _ (v : ℕ → ℤ) where
           let own : k ≡ sorted k = is ∙ sym (sorted_itself (sorted e.1) (sorted_rising e.1)) ∙ ap sorted (sym is) in
           let yes = numbers_same k (sorted k) own in cc
 
-  sorted_value : (q : List ℕ) → atoms_value v (sorted q) ≡ atoms_value v q
+  pub sorted_value : (q : List ℕ) → atoms_value v (sorted q) ≡ atoms_value v q
   sorted_value q = joined_value v 0 q [] ∙ mul-one (atoms_value v q)
 
   one_total : (s t : Sum ℕ) → ((p : List ℕ) → coefficient same_number p s ≡ coefficient same_number p t) → total (atoms_value v) s ≡ total (atoms_value v) t
@@ -76,7 +76,7 @@ module _ (v : ℕ → ℤ) where
 -- ---- terms by the nodes of their atoms
 
 module _ (words : ℕ → Ty → Word) (met : List Tree) where
-  abbrev value_at : Option Tree → ℤ
+  abbrev pub value_at : Option Tree → ℤ
   value_at None = pos 1
   value_at (Some a) = node_value words a
 
@@ -113,7 +113,7 @@ module _ (words : ℕ → Ty → Word) (met : List Tree) where
 
 -- ---- the node of an atom's number
 
-entry_at : (E : Tree → Atom) (P : Tree → Type 0) (x : Atom) (nodes : List Tree) → AllByRecursion P nodes → atom_number (map E nodes) x < length (map E nodes)
+pub entry_at : (E : Tree → Atom) (P : Tree → Type 0) (x : Atom) (nodes : List Tree) → AllByRecursion P nodes → atom_number (map E nodes) x < length (map E nodes)
     → (b : Tree) × (slice_get nodes (atom_number (map E nodes) x) ≡ Some b) × (E b ≡ x) × P b
 entry_at E P x [] h l = absurd (omega (arith, l))
 entry_at E P x (b ∷ bs) h l = by (same_entry (E b) x) refl l (entry_at E P x bs h.1)

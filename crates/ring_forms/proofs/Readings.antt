@@ -117,7 +117,7 @@ module _ (old new : List Atom) (more : Extends old new) where
         by true e f g = ap (combined_form m code (unwrap_or (constant_places ty args) 0)) (f e)
         by false e f g = ap (λ os. atom_form (atom_number new (Operation code ty os))) (g e) ∙ ap atom_form (more.keeps (Operation code ty (operands_over old args)) (h.1 e).0)
 
-    kept_forms : (m : ℕ) (ts : Trees) → HasAll old m ts → forms_over new m ts ≡ forms_over old m ts
+    pub kept_forms : (m : ℕ) (ts : Trees) → HasAll old m ts → forms_over new m ts ≡ forms_over old m ts
     kept_forms m nil h = refl
     kept_forms m (cons t ts) h = λ i. kept_form m t h.0 i ∷ kept_forms m ts h.1 i
 
@@ -137,7 +137,7 @@ module _ (old new : List Atom) (more : Extends old new) where
       ),
     )
 
-    kept_has_all : (m : ℕ) (ts : Trees) → HasAll old m ts → HasAll new m ts
+    pub kept_has_all : (m : ℕ) (ts : Trees) → HasAll old m ts → HasAll new m ts
     kept_has_all m nil h = tt
     kept_has_all m (cons t ts) h = (kept_has m t h.0, kept_has_all m ts h.1)
 
@@ -159,7 +159,7 @@ module _ (old new : List Atom) (more : Extends old new) where
         by true e f g = f e
         by false e f g = g e
 
-    all_kept_limited : (m : ℕ) (ts : Trees) → HasAll old m ts → all_limited new m ts ≡ all_limited old m ts
+    pub all_kept_limited : (m : ℕ) (ts : Trees) → HasAll old m ts → all_limited new m ts ≡ all_limited old m ts
     all_kept_limited m nil h = refl
     all_kept_limited m (cons t ts) h = λ i. kept_limited m t h.0 i && all_kept_limited m ts h.1 i
 
@@ -196,7 +196,7 @@ mutual
       by true x y = x
       by false x y = further table (after_full args table) (with_operation code ty args (after_full args table)) y (extends_new (after_full args table) (Operation code ty (operands_over (after_full args table) args)))
 
-  all_extends : (m : ℕ) (ts : Trees) (table : List Atom) → Extends table (after_all m ts table)
+  pub all_extends : (m : ℕ) (ts : Trees) (table : List Atom) → Extends table (after_all m ts table)
   all_extends m nil table = itself table
   all_extends m (cons t ts) table = further table (after m t table) (after_all m ts (after m t table)) (after_extends m t table) (all_extends m ts (after m t table))
 
@@ -227,7 +227,7 @@ mutual
         ),
       )
 
-  has_all_after : (m : ℕ) (ts : Trees) (table : List Atom) → HasAll (after_all m ts table) m ts
+  pub has_all_after : (m : ℕ) (ts : Trees) (table : List Atom) → HasAll (after_all m ts table) m ts
   has_all_after m nil table = tt
   has_all_after m (cons t ts) table =
       (kept_has (after m t table) (after_all m ts (after m t table)) (all_extends m ts (after m t table)) m t (has_after m t table), has_all_after m ts (after m t table))
@@ -304,7 +304,7 @@ mutual
           ∙ (λ i. given (sym lim i) (atom_form (sym (new_number (after_full args table) (Operation code ty (operands_over (after_full args table) args))) i)) (with_operation code ty args (after_full args table)))
           ∙ (λ i. given (full_limited (with_operation code ty args (after_full args table)) args) (atom_form (atom_number (with_operation code ty args (after_full args table)) (Operation code ty (sym os i)))) (with_operation code ty args (after_full args table)))
 
-  ring_forms_are : (m : ℕ) (ts : Trees) (table : List Atom) → ring_forms m ts table ≡ given (all_limited (after_all m ts table) m ts) (forms_over (after_all m ts table) m ts) (after_all m ts table)
+  pub ring_forms_are : (m : ℕ) (ts : Trees) (table : List Atom) → ring_forms m ts table ≡ given (all_limited (after_all m ts table) m ts) (forms_over (after_all m ts table) m ts) (after_all m ts table)
   ring_forms_are m nil table = refl
   ring_forms_are m (cons t ts) table =
       let more = all_extends m ts (after m t table) in

@@ -297,7 +297,7 @@ module _ (words : ℕ → Ty → Word) (given : (version : ℕ) (ty : Ty) → Is
   mutual
     unfolding well_typed_operation
 
-    ring_law : (t : Tree) → IsWellTyped t → (m : ℕ) (table : List Atom) → IfSome (ring_form m t table) (FormOf m table t)
+    pub ring_law : (t : Tree) → IsWellTyped t → (m : ℕ) (table : List Atom) → IfSome (ring_form m t table) (FormOf m table t)
     ring_law (name version ty) w m table =
         atom_of m table table (name version ty) (Name version ty) (le_self (length table)) (λ v c. c) (λ o. o) tt (λ v c x e. (let is : words version ty ≡ x = cc in ap value is))
     ring_law (constant word) w m table = record {

@@ -44,7 +44,7 @@ module _ (P : Tree → Type 0) where
 
 -- ---- one number, one entry
 
-one_entry : (table : List Atom) (a b : Atom) → IsIn table a → atom_number table a ≡ atom_number table b → a ≡ b
+pub one_entry : (table : List Atom) (a b : Atom) → IsIn table a → atom_number table a ≡ atom_number table b → a ≡ b
 one_entry [] a b h e = absurd (omega arith)
 one_entry (c ∷ cs) a b h e = by (same_entry c a) (same_entry c b) refl refl h e (one_entry cs a b)
   where
@@ -86,7 +86,7 @@ module _ (table : List Atom) where
         → Factors (Held depth) (atom (node code ty args))
     own code ty args h w o e = alone (node code ty args) (h.1 e, w, o)
 
-    factors : (t : Tree) → Has table m t → IsWellTyped t → operations t < depth → Factors (Held depth) (expanded m t)
+    pub factors : (t : Tree) → Has table m t → IsWellTyped t → operations t < depth → Factors (Held depth) (expanded m t)
     factors (name version ty) h w o = alone (name version ty) (h, w, o)
     factors (constant word) h w o = (tt, tt)
     factors (node code ty nil) h w o = chosen (goes_by_parts m code ty nil) _ _ (λ e. tt) (own code ty nil h w o)
@@ -174,7 +174,7 @@ module _ (table : List Atom) where
         by true e f g = f e
         by false e f g = g e
 
-    have_forms_are : (depth m : ℕ) → 0 < m → (ts : Trees) → HasAll table m ts → AreWellTyped ts → operations_of ts < depth → have_forms (same_atom depth) m ts ≡ all_limited table m ts
+    pub have_forms_are : (depth m : ℕ) → 0 < m → (ts : Trees) → HasAll table m ts → AreWellTyped ts → operations_of ts < depth → have_forms (same_atom depth) m ts ≡ all_limited table m ts
     have_forms_are depth m some nil h w o = refl
     have_forms_are depth m some (cons t ts) h w o = λ i. has_form_is depth m some t h.0 w.0 (omega arith) i && have_forms_are depth m some ts h.1 w.1 (omega arith) i
 

@@ -1,4 +1,7 @@
 pub mod Atoms
+pub mod Differences
+pub mod DifferenceTables
+pub mod DifferenceValues
 pub mod ExactForms
 pub mod ExactTables
 pub mod Forms

@@ -133,7 +133,7 @@ fn as_atom(
 
 /// The exact forms of these terms.
 #[cycle(exact)]
-fn exacts_of(
+pub(crate) fn exacts_of(
     alloc: Global,
     terms: &[Term],
     reading: &mut Reading,

@@ -4,6 +4,7 @@
 
 mod arithmetic;
 mod atom;
+mod differences;
 mod equal;
 mod exact;
 mod form;
@@ -11,6 +12,7 @@ pub mod laws;
 mod poly;
 mod ring;
 
+pub use differences::{are_one_exactly, are_one_modulo, exact_number, ring_number};
 pub use equal::ring_equal;
 pub use exact::exact_form;
 pub use poly::{Atom, Monomial, Poly};

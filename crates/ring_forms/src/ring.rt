@@ -79,7 +79,7 @@ fn operation_form(
 
 /// The forms of these terms.
 #[cycle(form)]
-fn forms_of(
+pub(crate) fn forms_of(
     alloc: Global,
     terms: &[Term],
     ty: IntType,
@@ -122,7 +122,7 @@ pub(crate) fn operands_of(
 }
 
 /// The type of a term.
-fn type_of(term: &Term) -> IntType
+pub(crate) fn type_of(term: &Term) -> IntType
     ensures { result ≡ type_of (tree_of term.now) }
 {
     match term {

@@ -1,9 +1,9 @@
 -- A merge keeps the function valid, and leaves fewer names to merge.
-use Rattle.std.proofs.Common.{◌≡◌, ◌⊎◌, ℕ, zero, suc, ◌<◌, ◌≤◌, Bool, true, false, cond, not, Option, Some, None, List, [], ◌∷◌, ◌++◌, eqb, length, map, flat_map, filter, slice_get, append_assoc, refl, sym, ap, subst, ◌∙◌, inl, inr, ⊎_elim, arith}
+use Rattle.std.proofs.Common.{◌≡◌, ◌⊎◌, ℕ, zero, suc, ◌<◌, ◌≤◌, Bool, true, false, cond, not, Option, Some, None, List, [], ◌∷◌, ◌++◌, eqb, length, map, flat_map, filter, slice_get, append_assoc, refl, sym, ap, ap₂, subst, ◌∙◌, inl, inr, ⊎_elim, arith}
 use Rattle.std.specs.List.{list_any}
 use Rattle.std.specs.Option.{option_map_or}
 use Rattle.std.proofs.lemmas.Bool.{both_ways, and_parts, eq-eqb, eqb-true, false_from_ne_true}
-use Rattle.std.proofs.lemmas.Option.{same_Some}
+use Rattle.std.proofs.lemmas.Option.{same_Some, none-some}
 use Rattle.std.proofs.lemmas.List.{map-append}
 use Rattle.std.proofs.lemmas.List.Folds.{list_any-append}
 use Rattle.pm_wide.specs.Types.{same_type, bool_type}
@@ -36,16 +36,18 @@ use Rattle.gim_changes.proofs.FilteredLists.{fewer_filtered}
 use Rattle.gim_changes.proofs.Unused.{other, assigned_without}
 use Rattle.gim_changes.proofs.ValidSubstitution.{valid_with_put}
 use Rattle.gim_changes.proofs.ValidWithout.{valid_without}
-use Rattle.gim_meaning.specs.KeptRuns.{KeepsDefinedRuns}
+use Rattle.gim_meaning.specs.AllRuns.{KeepsAllRuns, IsNeverStuckAt}
+use Rattle.gim_meaning.specs.PresentValues.{ArePossible}
 use Rattle.gim_meaning.specs.ReachedPoints.{Lies}
 use Rattle.gim_meaning.specs.SameReading.{AlwaysReadsAlike}
+use Rattle.gim_meaning.proofs.AllRunsKept.{always_read_alike_keeps_all_runs, removal_keeps_all_runs, trimming_keeps_all_runs, all_through}
 use Rattle.gim_meaning.proofs.BlockOfPlace.{block_at}
-use Rattle.gim_meaning.proofs.KeptInARow.{keeps_through}
-use Rattle.gim_meaning.proofs.PossibleWords.{always_read_alike_keeps_runs}
-use Rattle.gim_meaning.proofs.RemovalRuns.{removal_keeps_runs}
+use Rattle.gim_meaning.proofs.KeptInARow.{same_arguments}
+use Rattle.gim_meaning.proofs.PossibleWords.{words_are_possible}
+use Rattle.gim_meaning.proofs.Reached.{lies}
 use Rattle.gim_meaning.proofs.RightSides.{right_at}
+use Rattle.gim_meaning.proofs.RunsAndPoints.{undefined_at, undefined_there}
 use Rattle.gim_meaning.proofs.SubstitutionRuns.{each_of}
-use Rattle.gim_meaning.proofs.TrimmingRuns.{trimming_keeps_runs}
 use Rattle.value_numbers.specs.Merges.{MayTake, IsMerge, merged}
 use Rattle.value_numbers.proofs.TakenNames.{spot_of_right}
 use Rattle.value_numbers.specs.Spots.{Spot, spots_in, spots_of_block, spots_of}
@@ -280,7 +282,7 @@ module _ (f : Function) (valid : IsValid f) (x y : ℕ) (merge : IsMerge f x y) 
       subst (λ l. length l < length (assigned f)) (sym same)
       (fewer_without (other x) x (other_not x) (assigned f) (among_member x (assigned f) x_is_assigned))
 
-  -- ---- defined runs are kept
+  -- ---- runs are kept
 
   read_alike : (place : Use) → IsReadableUse f place → AlwaysReadsAlike f x by_y place
   unfolding by_y
@@ -291,13 +293,36 @@ module _ (f : Function) (valid : IsValid f) (x y : ℕ) (merge : IsMerge f x y) 
       let of_y : rhs_value (name_type f y) env merge.spot.stmt.rhs ≡ Some (env y) = possible.values y y_there merge.spot.stmt.rhs right_of_y in
       same_Some (env y) (env x) (sym of_y ∙ ap (λ t. rhs_value t env merge.spot.stmt.rhs) types ∙ of_x)
 
-  put_keeps_runs : KeepsDefinedRuns f put_for_x
+  put_keeps_all : KeepsAllRuns f put_for_x
   unfolding put_for_x
-  put_keeps_runs =
-      always_read_alike_keeps_runs f x by_y valid.well_formed (each_of (IsReadableUse f) (AlwaysReadsAlike f x by_y) read_alike (uses_in f) valid.readable)
+  put_keeps_all =
+      always_read_alike_keeps_all_runs f x by_y valid.well_formed (each_of (IsReadableUse f) (AlwaysReadsAlike f x by_y) read_alike (uses_in f) valid.readable)
 
-  pub merge_keeps_runs : KeepsDefinedRuns f (merged x y f)
+  -- where a run comes to x, y has the value of the same operation
+  never_stuck : IsNeverStuckAt f x
+  never_stuck args words stuck =
+      let names = map stmt_name stuck.stmts in
+      let n = stuck.block.number in
+      let possible : ArePossible f n (stuck.stmt.name ∷ names) stuck.env =
+      words_are_possible f args stuck.block (stuck.stmt ∷ stuck.stmts) stuck.env valid.well_formed words stuck.reached in
+      let at_x : ArePossible f n (x ∷ names) stuck.env = subst (λ z. ArePossible f n (z ∷ names) stuck.env) stuck.name possible in
+      let of_y : rhs_value (name_type f y) stuck.env merge.spot.stmt.rhs ≡ Some (stuck.env y) =
+      at_x.values y (comes_before.readable n names) merge.spot.stmt.rhs right_of_y in
+      let right : stuck.stmt.rhs ≡ merge.spot.stmt.rhs =
+      same_Some stuck.stmt.rhs merge.spot.stmt.rhs
+      (sym (right_at f valid.well_formed stuck.block stuck.stmt stuck.stmts (lies stuck.reached)) ∙ (ap (right_of f) stuck.name ∙ right_of_x)) in
+      none-some (stuck.env y)
+      (sym stuck.none ∙ (ap₂ (λ t r. rhs_value t stuck.env r) (ap (name_type f) stuck.name ∙ sym types) right ∙ of_y))
+
+  never_stuck_with_put : IsNeverStuckAt put_for_x x
+  never_stuck_with_put args words stuck =
+      let before = same_arguments put_for_x f args (sym put_keeps_all.params) words in
+      let there = undefined_there put_for_x args x stuck in
+      never_stuck args before (undefined_at f args there.0 x (sym (put_keeps_all.runs args before there.0) ∙ there.1))
+
+  pub merge_keeps_all_runs : KeepsAllRuns f (merged x y f)
   unfolding put_for_x by_y
-  merge_keeps_runs =
-      keeps_through f put_for_x (merged x y f) put_keeps_runs
-      (keeps_through put_for_x (without x put_for_x) (merged x y f) (removal_keeps_runs x put_for_x x_is_unused) (trimming_keeps_runs (without x put_for_x)))
+  merge_keeps_all_runs =
+      all_through f put_for_x (merged x y f) put_keeps_all
+      (all_through put_for_x (without x put_for_x) (merged x y f) (removal_keeps_all_runs x put_for_x x_is_unused never_stuck_with_put)
+      (trimming_keeps_all_runs (without x put_for_x)))

@@ -3,6 +3,7 @@
 ghost use Rattle.std.specs.Prelude.{◌≡◌, ℕ, List};
 ghost use Rattle.gim_ast.specs.Readable.{IsValid};
 ghost use Rattle.gim_ast.specs.declared.function.Function.{Function};
+ghost use Rattle.gim_meaning.specs.AllRuns.{KeepsAllRuns};
 ghost use Rattle.gim_meaning.specs.KeptRuns.{KeepsDefinedRuns};
 ghost use Rattle.value_numbers.specs.Merges.{IsMerge, Numbers, merged};
 
@@ -12,9 +13,11 @@ pub fn merges_are_determined()
         Numbers f others h → (merges ≡ others) × (g ≡ h) }
 {}
 
-/// One merge keeps a function valid, and keeps every defined run.
+/// One merge keeps a function valid, and keeps every run, undefined ones too.
 pub fn a_merge_keeps_validity_and_runs()
     ensures valid { (f : Function) (x y : ℕ) → IsValid f → IsMerge f x y → IsValid (merged x y f) }
     ensures runs { (f : Function) (x y : ℕ) → IsValid f → IsMerge f x y →
         KeepsDefinedRuns f (merged x y f) }
+    ensures all { (f : Function) (x y : ℕ) → IsValid f → IsMerge f x y →
+        KeepsAllRuns f (merged x y f) }
 {}

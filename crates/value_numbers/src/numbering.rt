@@ -1,6 +1,7 @@
 //! Value numbering: merges one after the other, until there is none.
 ghost use Rattle.std.specs.Prelude.{IfOk};
 ghost use Rattle.gim_ast.specs.Readable.{IsValid};
+ghost use Rattle.gim_meaning.specs.AllRuns.{KeepsAllRuns};
 ghost use Rattle.gim_meaning.specs.KeptRuns.{KeepsDefinedRuns};
 ghost use Rattle.value_numbers.specs.Merges.{Numbers};
 
@@ -24,12 +25,13 @@ pub struct Numbered {
 /// At the first statement in program order for which there is one, the least other name is taken
 /// that a statement of the same type and right side assigns, and that is readable there; it is put
 /// for the statement's name in every use, and the statement goes. This is repeated. The function
-/// stays valid, and keeps every defined run.
+/// stays valid, and each run stays as it is, undefined ones too.
 pub fn number(alloc: Global, mut function: Function) -> Result<Numbered, OutOfMemory>
     requires { IsValid function }
     ensures merges { IfOk result (λ numbered. Numbers function numbered.merges numbered.function) }
     ensures valid { IfOk result (λ numbered. IsValid numbered.function) }
     ensures runs { IfOk result (λ numbered. KeepsDefinedRuns function numbered.function) }
+    ensures all { IfOk result (λ numbered. KeepsAllRuns function numbered.function) }
 {
     let mut merges = Items::new(alloc);
     while let Some((name, taken)) = next_merge(alloc, &function)? {

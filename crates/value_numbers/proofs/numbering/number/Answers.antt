@@ -4,11 +4,11 @@ use Rattle.std.specs.List.{AllByRecursion}
 use Rattle.gim_ast.specs.declared.function.Function.{Function}
 use Rattle.gim_ast.specs.Functions.{assigned}
 use Rattle.gim_ast.specs.Readable.{IsValid}
-use Rattle.gim_meaning.specs.KeptRuns.{KeepsDefinedRuns}
-use Rattle.gim_meaning.proofs.KeptInARow.{keeps_through}
+use Rattle.gim_meaning.specs.AllRuns.{KeepsAllRuns}
+use Rattle.gim_meaning.proofs.AllRunsKept.{all_through, keeps_defined}
 use Rattle.value_numbers.specs.Merges.{HasNone, IsMerge, merged, Numbers, done, merge}
 use Rattle.value_numbers.specs.Spots.{spots_of}
-use Rattle.value_numbers.proofs.MergedFunctions.{merged_is_valid, fewer_after_merge, merge_keeps_runs}
+use Rattle.value_numbers.proofs.MergedFunctions.{merged_is_valid, fewer_after_merge, merge_keeps_all_runs}
 use Rattle.value_numbers.proofs.numbering.number.Goals as goal
 
 pub loop-merges-smaller : goal.loop-merges-smaller
@@ -33,8 +33,8 @@ loop-merges-preserved c =
           subst (λ l. Numbers c.args.function l g)
           (sym (append_assoc c.loop-merges.merges ((x, y) ∷ []) more) ∙ ap (λ l. l ++ more) (sym c.in_ok-push.ensures.ok))
           (so_far.numbers ((x, y) ∷ more) g (merge f g x y more next (subst (λ (h : Function). Numbers h more g) c.merge.ensures rest)));
-      runs = subst (KeepsDefinedRuns c.args.function) (sym c.merge.ensures)
-          (keeps_through c.args.function f (merged x y f) so_far.runs (merge_keeps_runs f so_far.valid x y next));
+      runs = subst (KeepsAllRuns c.args.function) (sym c.merge.ensures)
+          (all_through c.args.function f (merged x y f) so_far.runs (merge_keeps_all_runs f so_far.valid x y next));
     }
 
 pub returns-clause-merges : goal.returns-clause-merges
@@ -43,3 +43,6 @@ returns-clause-merges c =
     let none : AllByRecursion (HasNone f) (spots_of f) =
     subst (λ o. MatchOption o (AllByRecursion (HasNone f) (spots_of f)) (λ (pair : ℕ × ℕ). IsMerge f pair.0 pair.1)) c.in_default.is c.in_ok-name.ensures in
     subst (λ l. Numbers c.args.function l f) (append-nil c.loop-merges.merges) (c.loop-merges.invariant.numbers [] f (done f none))
+
+pub returns-clause-runs : goal.returns-clause-runs
+returns-clause-runs c = keeps_defined c.args.function c.loop-merges.function c.loop-merges.invariant.runs

@@ -1,0 +1,5 @@
+pub mod ChoiceLemmas
+pub mod OrderLemmas
+pub mod Alone
+pub mod Counted
+pub mod Untouched

@@ -1,0 +1,5 @@
+pub mod Choices
+pub mod Groups
+pub mod Marks
+pub mod Orders
+pub mod Faults

@@ -1,0 +1,13 @@
+//! Patterns without choices left: optional operations present or absent, and the operands of marked
+//! operations in both orders.
+#![tactic(auto)]
+
+mod choices;
+mod faults;
+mod groups;
+mod marks;
+mod orders;
+mod sharing;
+
+pub use groups::optional;
+pub use orders::commute;
