@@ -8,7 +8,7 @@ use Rattle.pm_io.specs.Taking.{followed_by}
 use Rattle.pm_io.specs.declared.faults.ReadFault.{ReadFault}
 use Rattle.pm_io.specs.declared.faults.ReadFault.TheVariants as faults
 use Rattle.pm_io.proofs.Followed.{followed_by-append}
-use Rattle.match_top.specs.Answer.{Answer, OrMemory, IsOrMemory}
+use Rattle.match_top.specs.Answer.{Answer, OrMemory, IsOrMemory, RightOrMemory}
 use Rattle.match_top.specs.Given.{Given, Bytes, Missing, TooLong, Unread, NoRoom, Gives, Give, IsReadWhole, IsAtEnd, Came, Judges, EndsUnread, ComesTo, Work, Answers, Answered, AnswersHeld, given_by_fault, Keeps, Asked, Staged}
 use Rattle.match_top.specs.Needs.{Need, Value, limit_of}
 use Rattle.match_top.specs.declared.answer.Stop.{Stop}
@@ -164,8 +164,8 @@ nothing needs state = record { give = tt; asked = same state.asked; untouched = 
     kept [] = refl
     kept (x ∷ l) = ap (λ k. x ∷ k) (kept l)
 
-pub works : (wanted answer : Answer) (state : InputState) → IsOrMemory wanted answer → Answered [] wanted state state answer
-works wanted answer state is = record { given = []; came = nothing [] state; answers = (refl, is) }
+pub works : (is_right : Answer → Type 0) (answer : Answer) (state : InputState) → RightOrMemory is_right answer → Answered [] is_right state state answer
+works is_right answer state is = record { given = []; came = nothing [] state; answers = (refl, is) }
 
 pub no_memory : (needs : List Need) (work : Work needs) (state : InputState) → Answered needs work state state (Err Memory)
 no_memory [] work state = works work (Err Memory) state (inr refl)

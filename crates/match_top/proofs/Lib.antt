@@ -4,8 +4,10 @@ pub mod GivenLemmas
 pub mod NameLemmas
 pub mod OneAnswer
 pub mod OptionLemmas
+pub mod PassLemmas
 pub mod ProgramLemmas
 pub mod RowLemmas
 pub mod RunLemmas
 pub mod SaysLemmas
 pub mod StatusLemmas
+pub mod TidyLemmas

@@ -66,16 +66,20 @@ names-pruned : (f : Function) → (pruned f).names ≡ f.names
 unfolding pruned
 names-pruned f = names-pruned_by _ f
 
-rise_trimmed : (f : Function) → names_rise f ≡ true → names_rise (trimmed f) ≡ true
+-- rows that stay are in order as they were
+pub rise_kept_rows : (g f : Function) → g.names ≡ f.names → names_rise f ≡ true → names_rise g ≡ true
+rise_kept_rows g f same h = ap (λ rows. rises (map (λ (row : NameRow). row.version) rows)) same ∙ h
+
+pub rise_trimmed : (f : Function) → names_rise f ≡ true → names_rise (trimmed f) ≡ true
 unfolding trimmed
 rise_trimmed f h = rises_kept (λ (row : NameRow). row.version) (λ (row : NameRow). stands_in f row.version || is_empty_text row.base) f.names h
 
 pub rise_tidied : (f : Function) → names_rise f ≡ true → names_rise (tidied f) ≡ true
-rise_tidied f h = rise_trimmed (pruned f) (ap (λ rows. rises (map (λ (row : NameRow). row.version) rows)) (names-pruned f) ∙ h)
+rise_tidied f h = rise_trimmed (pruned f) (rise_kept_rows (pruned f) f (names-pruned f) h)
 
 module _ (row_at : View → Subject → Option (ℕ × Operand)) where
   rise_stepped : (f : Function) (found : Subject × Choice) → names_rise f ≡ true → names_rise (stepped row_at f found) ≡ true
-  rise_stepped f found h = rise_tidied (changed found.0.site found.1.result f) (ap (λ rows. rises (map (λ (row : NameRow). row.version) rows)) (names-changed found.0.site found.1.result f) ∙ h)
+  rise_stepped f found h = rise_tidied (changed found.0.site found.1.result f) (rise_kept_rows (changed found.0.site found.1.result f) f (names-changed found.0.site found.1.result f) h)
 
   module _ (more : Subject × Choice → Rewritten) (last : Rewritten) (each : (found : Subject × Choice) → names_rise (more found).function ≡ true) (here : names_rise last.function ≡ true) where
     rise_at : (found : Option (Subject × Choice)) → names_rise (option_map_or more found last).function ≡ true

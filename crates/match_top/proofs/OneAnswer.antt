@@ -15,20 +15,24 @@ use Rattle.gim_reader.proofs.OneAnswer.{one_list, no_fault, one_fault}
 use Rattle.gim_round_trip.specs.ReadBack.{MayBeReadBack}
 use Rattle.gim_round_trip.proofs.ReadFunctions.{read_may_be_printed}
 use Rattle.gim_round_trip.proofs.PrintedFunctions.{read_back}
-use Rattle.match_top.specs.Answer.{Answer, status_of, out_of, refusal, OrMemory, IsOrMemory}
-use Rattle.match_top.specs.Check.{check_needs, checked}
+use Rattle.match_top.specs.Answer.{Answer, status_of, out_of, refusal, OrMemory, RightOrMemory}
+use Rattle.match_top.specs.Check.{Checks, checked}
+use Rattle.match_top.specs.Commands.{needs_of, work_of}
 use Rattle.match_top.specs.Functions.{IsAccepted, IsFirstInvalid, IsRefusedWith, by_fault, by_unreadable, gimple_fault_text, unreadable_text}
 use Rattle.match_top.specs.Given.{Given, Bytes, Missing, TooLong, Unread, NoRoom, Gives, Give, IsRefusal, Judges, ComesTo, GoesOn, Work, Answers, AnswersHeld}
 use Rattle.match_top.specs.Needs as needs
-use Rattle.match_top.specs.Needs.{Need, Value, StandsFor, cause_of, limit_of}
+use Rattle.match_top.specs.Needs.{Need, Value, StandsFor, cause_of, limit_of, functions_named}
 use Rattle.match_top.specs.declared.answer.Stop.{Stop}
 use Rattle.match_top.specs.declared.answer.Stop.TheVariants.{Memory, Refusal}
-use Rattle.match_top.specs.declared.commands.check.Check.{Check}
+use Rattle.match_top.specs.declared.commands.Command.{Command}
+use Rattle.match_top.specs.declared.commands.Command.TheVariants as commands
+use Rattle.match_top.specs.declared.passes.Pass.TheVariants.{Tidying, Numbering}
 use Rattle.match_top.specs.declared.needs.Kind.{Kind}
 use Rattle.match_top.specs.declared.needs.Kind.TheVariants.{Patterns, FirstForm, Functions}
 use Rattle.match_top.specs.declared.patterns.PatternFile.{PatternFile}
 use Rattle.match_top.specs.declared.status.Status.{Status}
 use Rattle.match_top.specs.declared.status.Status.TheVariants.{Done}
+use Rattle.match_top.proofs.PassLemmas.{passes_once}
 
 -- ---- refused files
 
@@ -95,10 +99,10 @@ not_both Functions source t a p q = accepted_not_refused source t a p q
 abbrev pub AreOne : Answer → Answer → Type 0
 AreOne a b = (a ≡ b) ⊎ ((a ≡ Err Memory) ⊎ (b ≡ Err Memory))
 
-both : (wanted a b : Answer) → IsOrMemory wanted a → IsOrMemory wanted b → AreOne a b
-both wanted a b (inl p) (inl q) = inl (p ∙ sym q)
-both wanted a b (inr p) q = inr (inl p)
-both wanted a b p (inr q) = inr (inr q)
+both : (is_right : Answer → Type 0) (a b : Answer) → ((x y : Answer) → is_right x → is_right y → x ≡ y) → RightOrMemory is_right a → RightOrMemory is_right b → AreOne a b
+both is_right a b one (inl p) (inl q) = inl (one a b p q)
+both is_right a b one (inr p) q = inr (inl p)
+both is_right a b one p (inr q) = inr (inr q)
 
 both_stopped : (wanted s t : Stop) (a b : Answer) → OrMemory wanted s → OrMemory wanted t → a ≡ Err s → b ≡ Err t → AreOne a b
 both_stopped wanted s t a b (inl p) (inl q) e f = inl (e ∙ ap Err (p ∙ sym q) ∙ sym f)
@@ -175,26 +179,46 @@ module _ (need : Need) (Next : Value need.kind → List Given → Answer → Typ
   by_given g h s t more others a b (inr (inl none)) p q e f next = inr (inl (no_room need s (λ value. Next value more a) more a (subst (λ g. ComesTo need g s) none p) e))
   by_given g h s t more others a b (inr (inr none)) p q e f next = inr (inr (no_room need t (λ value. Next value others b) others b (subst (λ g. ComesTo need g t) none q) f))
 
-one : (held : List ℕ → Option (List ℕ)) (needs : List Need) (work : Work needs) (given others : List Given) (a b : Answer) → Give ⊥ (Some held) needs given → Give ⊥ (Some held) needs others
-    → Answers needs work given a → Answers needs work others b → AreOne a b
-one held [] work given others a b p q e f = both work a b e.1 f.1
-one held (need ∷ needs) work [] others a b p q e f = inr (inl e)
-one held (need ∷ needs) work (g ∷ given) [] a b p q e f = inr (inr f)
-one held (need ∷ needs) work (g ∷ given) (h ∷ others) a b p q e f =
+-- of given files one answer is right
+abbrev pub Determined : (needs : List Need) → Work needs → Type 0
+Determined [] is_right = (x y : Answer) → is_right x → is_right y → x ≡ y
+Determined (need ∷ needs) work = (value : Value need.kind) → Determined needs (work value)
+
+one : (held : List ℕ → Option (List ℕ)) (needs : List Need) (work : Work needs) (given others : List Given) (a b : Answer) → Determined needs work → Give ⊥ (Some held) needs given
+    → Give ⊥ (Some held) needs others → Answers needs work given a → Answers needs work others b → AreOne a b
+one held [] work given others a b determined p q e f = both work a b determined e.1 f.1
+one held (need ∷ needs) work [] others a b determined p q e f = inr (inl e)
+one held (need ∷ needs) work (g ∷ given) [] a b determined p q e f = inr (inr f)
+one held (need ∷ needs) work (g ∷ given) (h ∷ others) a b determined p q e f =
     by_given need (λ value more answer. Answers needs (work value) more answer) g h e.stage f.stage given others a b (same_given held need g h p.0 q.0) e.comes f.comes e.goes_on f.goes_on
-    (λ value x y. one held needs (work value) given others a b p.1 q.1 x y)
+    (λ value x y. one held needs (work value) given others a b (determined value) p.1 q.1 x y)
 
-pub one_answer : (needs : List Need) (work : Work needs) (held : List ℕ → Option (List ℕ)) (a b : Answer) → AnswersHeld needs work held a → AnswersHeld needs work held b → AreOne a b
-one_answer needs work held a b p q = one held needs work p.given q.given a b p.give q.give p.answers q.answers
+determined_answer : (needs : List Need) (work : Work needs) (held : List ℕ → Option (List ℕ)) (a b : Answer) → Determined needs work → AnswersHeld needs work held a → AnswersHeld needs work held b
+    → AreOne a b
+determined_answer needs work held a b determined p q = one held needs work p.given q.given a b determined p.give q.give p.answers q.answers
 
--- ---- what `check` prints
+-- each command is so
+by_command : (command : Option Command) → Determined (needs_of command) (work_of command)
+by_command None = λ x y p q. p ∙ sym q
+by_command (Some (commands.Simplify command)) = λ file f x y p q. p ∙ sym q
+by_command (Some (commands.Check name)) = λ fs x y p q. p ∙ sym q
+by_command (Some (commands.Run command)) = λ fs x y p q. p ∙ sym q
+by_command (Some (commands.Tidy name)) = passes_once Tidying
+by_command (Some (commands.Number name)) = passes_once Numbering
 
--- the functions that were printed
-pub record Checks (held : List ℕ → Option (List ℕ)) (name : List ℕ) (a : Answer) : Type 0 where
+pub one_answer : (command : Option Command) (held : List ℕ → Option (List ℕ)) (a b : Answer) → AnswersHeld (needs_of command) (work_of command) held a
+    → AnswersHeld (needs_of command) (work_of command) held b → AreOne a b
+one_answer command held a b p q = determined_answer (needs_of command) (work_of command) held a b (by_command command) p q
+
+-- ---- work on the functions of a file
+
+-- the functions of the file, and that the answer is right for them
+pub record WorkedOn (held : List ℕ → Option (List ℕ)) (name : List ℕ) (work : List Function → Answer → Type 0) (a : Answer) : Type 0 where
   pub source : List ℕ
   pub functions : List Function
+  pub there : held name ≡ Some source
   pub accepted : IsAccepted source functions
-  pub answered : a ≡ checked functions
+  pub is_right : work functions a
 
 memory_done : (a : Answer) → a ≡ Err Memory → status_of a ≡ Done → ⊥
 memory_done a e done = let status : status_of a ≡ status_of (Err Memory) = ap status_of e in cc
@@ -205,18 +229,22 @@ stop_done a s e done = by s (sym (ap status_of e) ∙ done) where
   by Memory h = cc
   by (Refusal cause text) h = cc
 
-check_done : (held : List ℕ → Option (List ℕ)) (command : Check) (given : List Given) (a : Answer) → Answers (check_needs command) checked given a → status_of a ≡ Done → Checks held command.functions a
-check_done held command [] a e done = absurd (memory_done a e done)
-check_done held command (g ∷ given) a reads done = by g reads.stage reads.comes reads.goes_on where
-  by : (g : Given) (stage : Result (List Function) Stop) → ComesTo (record { kind = Functions; name = command.functions }) g stage
-      → GoesOn stage (λ fs. Answers [] (checked fs) given a) given a → Checks held command.functions a
-  by g (Err stop) comes goes = absurd (stop_done a stop goes.1 done)
-  by (Bytes source) (Ok fs) comes (none, inl e) = record { source = source; functions = fs; accepted = comes; answered = e }
-  by (Bytes source) (Ok fs) comes (none, inr e) = absurd (memory_done a e done)
-  by Missing (Ok fs) comes goes = absurd comes
-  by TooLong (Ok fs) comes goes = absurd comes
-  by Unread (Ok fs) comes goes = absurd comes
-  by NoRoom (Ok fs) comes goes = absurd comes
+-- work that is done was right for the functions of the file
+pub worked_on : (held : List ℕ → Option (List ℕ)) (name : List ℕ) (work : List Function → Answer → Type 0) (given : List Given) (a : Answer) → Give ⊥ (Some held) (functions_named name) given
+    → Answers (functions_named name) work given a → status_of a ≡ Done → WorkedOn held name work a
+worked_on held name work [] a give e done = absurd (memory_done a e done)
+worked_on held name work (g ∷ given) a give reads done = by g reads.stage give.0 reads.comes reads.goes_on where
+  by : (g : Given) (stage : Result (List Function) Stop) → Gives ⊥ (Some held) (record { kind = Functions; name = name }) g → ComesTo (record { kind = Functions; name = name }) g stage
+      → GoesOn stage (λ fs. Answers [] (work fs) given a) given a → WorkedOn held name work a
+  by g (Err stop) gives comes goes = absurd (stop_done a stop goes.1 done)
+  by (Bytes source) (Ok fs) gives comes (none, inl right) = record { source = source; functions = fs; there = gives.1; accepted = comes; is_right = right }
+  by (Bytes source) (Ok fs) gives comes (none, inr e) = absurd (memory_done a e done)
+  by Missing (Ok fs) gives comes goes = absurd comes
+  by TooLong (Ok fs) gives comes goes = absurd comes
+  by Unread (Ok fs) gives comes goes = absurd comes
+  by NoRoom (Ok fs) gives comes goes = absurd comes
+
+-- ---- what `check` prints
 
 pub printed_functions : (fs : List Function) → MayBeReadBack fs → AllByRecursion IsValid fs → IsAccepted (text fs) fs
 printed_functions fs may valid = record { stands = read_back fs may; valid = valid }
@@ -226,22 +254,22 @@ printed_is_accepted : (source : List ℕ) (fs : List Function) → IsAccepted so
 printed_is_accepted source fs accepted short = printed_functions fs (read_may_be_printed source fs accepted.stands short) accepted.valid
 
 -- the answer to printed functions
-printed_answer : (held : List ℕ → Option (List ℕ)) (command : Check) (fs : List Function) → IsAccepted (text fs) fs → held command.functions ≡ Some (text fs) → length (text fs) ≤ limit_of Functions
-    → AnswersHeld (check_needs command) checked held (checked fs)
-printed_answer held command fs accepted there short = record {
+printed_answer : (held : List ℕ → Option (List ℕ)) (name : List ℕ) (fs : List Function) → IsAccepted (text fs) fs → held name ≡ Some (text fs) → length (text fs) ≤ limit_of Functions
+    → AnswersHeld (functions_named name) Checks held (checked fs)
+printed_answer held name fs accepted there short = record {
   given = Bytes (text fs) ∷ [];
   give = ((short, there), tt);
   answers = record { stage = Ok fs; comes = accepted; goes_on = (refl, inl refl) };
 }
 
-pub printed_again : (held : List ℕ → Option (List ℕ)) (command again : Check) (a b : Answer) → AnswersHeld (check_needs command) checked held a → status_of a ≡ Done
-    → held again.functions ≡ Some (out_of a) → length (out_of a) ≤ limit_of Functions → AnswersHeld (check_needs again) checked held b → (b ≡ a) ⊎ (b ≡ Err Memory)
-printed_again held command again a b first done there short second =
-    let checks = check_done held command first.given a first.answers done in
-    let out : out_of a ≡ text checks.functions = ap out_of checks.answered in
-    let within : length (text checks.functions) ≤ limit_of Functions = subst (λ (bytes : List ℕ). length bytes ≤ limit_of Functions) out short in
-    let accepted = printed_is_accepted checks.source checks.functions checks.accepted within in
-    by checks.functions checks.answered (one_answer (check_needs again) checked held (checked checks.functions) b (printed_answer held again checks.functions accepted (there ∙ ap Some out) within) second) where
+pub printed_again : (held : List ℕ → Option (List ℕ)) (name again : List ℕ) (a b : Answer) → AnswersHeld (functions_named name) Checks held a → status_of a ≡ Done
+    → held again ≡ Some (out_of a) → length (out_of a) ≤ limit_of Functions → AnswersHeld (functions_named again) Checks held b → (b ≡ a) ⊎ (b ≡ Err Memory)
+printed_again held name again a b first done there short second =
+    let on = worked_on held name Checks first.given a first.give first.answers done in
+    let out : out_of a ≡ text on.functions = ap out_of on.is_right in
+    let within : length (text on.functions) ≤ limit_of Functions = subst (λ (bytes : List ℕ). length bytes ≤ limit_of Functions) out short in
+    let accepted = printed_is_accepted on.source on.functions on.accepted within in
+    by on.functions on.is_right (one_answer (Some (commands.Check again)) held (checked on.functions) b (printed_answer held again on.functions accepted (there ∙ ap Some out) within) second) where
       by : (fs : List Function) → a ≡ checked fs → AreOne (checked fs) b → (b ≡ a) ⊎ (b ≡ Err Memory)
       by fs is (inl e) = inl (sym e ∙ sym is)
       by fs is (inr (inl e)) = absurd cc

@@ -7,10 +7,12 @@ use Rattle.first_patterns.specs.Matching.{row_at}
 use Rattle.pm_wide.specs.Types.{Word}
 use Rattle.pm_io.specs.Causes.{Rose}
 use Rattle.pm_io.specs.InputState.{InputState}
-use Rattle.match_top.specs.Answer.{Answer, status_of, refusal, OrMemory, IsOrMemory}
-use Rattle.match_top.specs.Commands.{needs_of, work_of, is_of_work, may_end}
+use Rattle.match_top.specs.Answer.{Answer, status_of, refusal, OrMemory}
+use Rattle.match_top.specs.Commands.{no_command, no_command_ends, needs_of, work_of, is_of_work, may_end}
+use Rattle.match_top.specs.Check.{checked, check_ends}
 use Rattle.match_top.specs.Given.{Given, Bytes, Missing, TooLong, Unread, NoRoom, Gives, Give, IsRefusal, Judges, ComesTo, GoesOn, Work, Answers, Answered}
 use Rattle.match_top.specs.Needs.{Need, Value, cause_of, limit_of, too_long_text}
+use Rattle.match_top.specs.Passes.{Passes, pass_ends}
 use Rattle.match_top.specs.Refusals.{missing_text, unread_text}
 use Rattle.match_top.specs.Run.{ran, ran_by, run_answer, outcome_answer, arguments_of, function_named, run_ends}
 use Rattle.match_top.specs.Says.{IsAccepted, IsRefused, Ends, Refuses, Lacks, StatusSays}
@@ -20,9 +22,11 @@ use Rattle.match_top.specs.Writing.{Sunk, Writes}
 use Rattle.match_top.specs.declared.answer.Stop.{Stop}
 use Rattle.match_top.specs.declared.answer.Stop.TheVariants.{Memory, Refusal}
 use Rattle.match_top.specs.declared.commands.Command.{Command}
-use Rattle.match_top.specs.declared.commands.Command.TheVariants.{Simplify, Check, Run}
+use Rattle.match_top.specs.declared.commands.Command.TheVariants.{Simplify, Check, Run, Tidy, Number}
 use Rattle.match_top.specs.declared.commands.run.Run as run
 use Rattle.match_top.specs.declared.needs.Kind.{Kind}
+use Rattle.match_top.specs.declared.passes.Pass.{Pass}
+use Rattle.match_top.specs.declared.passes.Pass.TheVariants.{Tidying, Numbering}
 use Rattle.match_top.specs.declared.needs.Kind.TheVariants.{Patterns, FirstForm, Functions}
 use Rattle.match_top.specs.declared.patterns.PatternFile.{PatternFile}
 use Rattle.match_top.specs.declared.status.Cause.{Cause}
@@ -34,7 +38,7 @@ use Rattle.match_top.proofs.StatusLemmas.{status_or_failed}
 -- ---- how the work of each command may end
 
 abbrev Within : (Status → Bool) → (needs : List Need) → Work needs → Type 0
-Within ends [] answer = ends (status_of answer) ≡ true
+Within ends [] is_right = (answer : Answer) → is_right answer → ends (status_of answer) ≡ true
 Within ends (need ∷ needs) work = (value : Value need.kind) → Within ends needs (work value)
 
 -- a status of work that is among these
@@ -66,11 +70,20 @@ ran_ends : (command : run.Run) (fs : List Function) → of_work run_ends (status
 unfolding ran
 ran_ends command fs = by_ends command.name command.values command.fuel (function_named command.name fs)
 
+-- by the one answer that is right
+by_answer : (ends : Status → Bool) (answer wanted : Answer) → answer ≡ wanted → of_work ends (status_of wanted) ≡ true → of_work ends (status_of answer) ≡ true
+by_answer ends answer wanted is known = ap (λ (a : Answer). of_work ends (status_of a)) is ∙ known
+
+passed_ends : (pass : Pass) (fs : List Function) (answer : Answer) → Passes pass fs answer → of_work pass_ends (status_of answer) ≡ true
+passed_ends pass fs answer passes = ap (λ (a : Answer). of_work pass_ends (status_of a)) passes.answered
+
 within : (command : Option Command) → Within (may_end command) (needs_of command) (work_of command)
-within None = refl
-within (Some (Simplify command)) = simplified_ends
-within (Some (Check command)) = λ fs. refl
-within (Some (Run command)) = ran_ends command
+within None = λ answer is. by_answer no_command_ends answer no_command is refl
+within (Some (Simplify command)) = λ file f answer is. by_answer simplify_ends answer (simplified file f) is (simplified_ends file f)
+within (Some (Check name)) = λ fs answer is. by_answer check_ends answer (checked fs) is refl
+within (Some (Run command)) = λ fs answer is. by_answer run_ends answer (ran command fs) is (ran_ends command fs)
+within (Some (Tidy name)) = passed_ends Tidying
+within (Some (Number name)) = passed_ends Numbering
 
 -- ---- by the causes
 
@@ -127,14 +140,14 @@ module _ (held : List ℕ → Option (List ℕ)) (failed : Type 0) (need : Need)
 
 why : (held : List ℕ → Option (List ℕ)) (failed : Type 0) (needs : List Need) (work : Work needs) (given : List Given) (answer : Answer)
     → Give failed (Some held) needs given → Answers needs work given answer → Why held failed needs work answer
-why held failed [] work given answer give (none, inl e) = ended (sym (ap status_of e))
+why held failed [] work given answer give (none, inl e) = ended (answer, e, refl)
 why held failed [] work given answer give (none, inr e) = no_room e
 why held failed (need ∷ needs) work [] answer give e = no_room e
 why held failed (need ∷ needs) work (given ∷ more) answer give reads =
     first held failed need needs work answer given more reads.stage give.0 reads.comes reads.goes_on (λ value answers. why held failed needs (work value) more answer give.1 answers)
 
 ends_known : (held : List ℕ → Option (List ℕ)) (ends : Status → Bool) (needs : List Need) (work : Work needs) (status : Status) → Within ends needs work → Ends held needs work status → ends status ≡ true
-ends_known held ends [] answer status known e = ap ends (sym e) ∙ known
+ends_known held ends [] work status known (answer, right, e) = ap ends (sym e) ∙ known answer right
 ends_known held ends (need ∷ needs) work status known (value, accepted, e) = ends_known held ends needs (work value) status (known value) e
 
 file_cause : (held : List ℕ → Option (List ℕ)) (needs : List Need) (cause : Cause) → Refuses held needs cause → (kind : Kind) × (cause_of kind ≡ cause)
@@ -218,7 +231,7 @@ known_stop ends answer need Unread stop (inr e) is = by_room (is ∙ ap Err e)
 known_stop ends answer need NoRoom stop e is = by_room (is ∙ ap Err e)
 
 known : (ends : Status → Bool) (needs : List Need) (work : Work needs) (given : List Given) (answer : Answer) → Within ends needs work → Answers needs work given answer → Known ends answer
-known ends [] work given answer within (none, inl e) = by_work (ap (λ (a : Answer). ends (status_of a)) e ∙ within)
+known ends [] work given answer within (none, inl e) = by_work (within answer e)
 known ends [] work given answer within (none, inr e) = by_room e
 known ends (need ∷ needs) work [] answer within e = by_room e
 known ends (need ∷ needs) work (given ∷ more) answer within reads =
@@ -231,8 +244,10 @@ known ends (need ∷ needs) work (given ∷ more) answer within reads =
 none_ends : (command : Option Command) → may_end command (Refused causes.NoCommand) ≡ true → command ≡ None
 none_ends None e = refl
 none_ends (Some (Simplify command)) e = absurd cc
-none_ends (Some (Check command)) e = absurd cc
+none_ends (Some (Check name)) e = absurd cc
 none_ends (Some (Run command)) e = absurd cc
+none_ends (Some (Tidy name)) e = absurd cc
+none_ends (Some (Number name)) e = absurd cc
 
 kind_apart : (kind : Kind) → Refused causes.NoCommand ≡ Refused (cause_of kind) → ⊥
 kind_apart Patterns e = cc

@@ -1,5 +1,7 @@
 -- What the program answers: its status, and what it writes to `out` and to `report`.
-use Rattle.std.specs.Prelude.{◌≡◌, ◌⊎◌, ℕ, cond, List, [], Result, Ok, Err}
+use Rattle.std.specs.Prelude.{◌≡◌, ◌⊎◌, ℕ, false, cond, List, [], Result, Ok, Err}
+use Rattle.gim_ast.specs.declared.function.Function.{Function}
+use Rattle.gim_printer.specs.Printing.{text}
 use Rattle.match_top.specs.Refusals.{line}
 use Rattle.match_top.specs.declared.answer.Output.{Output}
 use Rattle.match_top.specs.declared.answer.Stop.{Stop}
@@ -20,9 +22,17 @@ refusal cause words = Refusal cause (line words)
 abbrev pub OrMemory : Stop → Stop → Type 0
 OrMemory wanted stop = (stop ≡ wanted) ⊎ (stop ≡ Memory)
 
+-- an answer that is right, unless memory ran out
+abbrev pub RightOrMemory : (Answer → Type 0) → Answer → Type 0
+RightOrMemory is_right answer = is_right answer ⊎ (answer ≡ Err Memory)
+
 -- this answer, unless memory ran out
 abbrev pub IsOrMemory : Answer → Answer → Type 0
 IsOrMemory wanted answer = (answer ≡ wanted) ⊎ (answer ≡ Err Memory)
+
+-- these functions, printed, and a text for `report`
+abbrev pub printed : List Function → List ℕ → Answer
+printed fs report = Ok (record { exhausted = false; out = text fs; report = report })
 
 -- ---- its parts
 

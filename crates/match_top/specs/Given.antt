@@ -5,7 +5,7 @@ use Rattle.pm_io.specs.InputState.{InputState}
 use Rattle.pm_io.specs.Taking.{followed_by}
 use Rattle.pm_io.specs.declared.faults.ReadFault.{ReadFault}
 use Rattle.pm_io.specs.declared.faults.ReadFault.TheVariants as faults
-use Rattle.match_top.specs.Answer.{Answer, refusal, OrMemory, IsOrMemory}
+use Rattle.match_top.specs.Answer.{Answer, refusal, OrMemory, RightOrMemory}
 use Rattle.match_top.specs.Needs.{Need, Value, StandsFor, IsRefusedWith, cause_of, limit_of, too_long_text}
 use Rattle.match_top.specs.Refusals.{missing_text, unread_text}
 use Rattle.match_top.specs.declared.needs.Kind.{Kind}
@@ -92,9 +92,9 @@ ComesTo need given (Err stop) = EndsUnread need given stop
 
 -- ---- all of them
 
--- A command's work on what its files stand for, one after the other.
-abbrev pub Work : List Need → Type 0
-Work [] = Answer
+-- A command's work on what its files stand for, one after the other: which answers are right.
+abbrev pub Work : List Need → Type 1
+Work [] = Answer → Type 0
 Work (need ∷ needs) = Value need.kind → Work needs
 
 -- with the value the work goes on; where there is none it ends, and no further file is begun
@@ -109,7 +109,7 @@ pub record Reads (need : Need) (given : Given) (more : List Given) (answer : Ans
 
 -- What work answers where the files that were begun gave this: each is judged before the next is begun. Want of memory is free.
 abbrev pub Answers : (needs : List Need) → Work needs → List Given → Answer → Type 0
-Answers [] wanted given answer = (given ≡ []) × IsOrMemory wanted answer
+Answers [] is_right given answer = (given ≡ []) × RightOrMemory is_right answer
 Answers (need ∷ needs) work [] answer = answer ≡ Err Memory
 Answers (need ∷ needs) work (given ∷ more) answer = Reads need given more answer (λ value. Answers needs (work value) more answer)
 

@@ -5,7 +5,9 @@ pub mod Functions
 pub mod Given
 pub mod Invalid
 pub mod Needs
+pub mod Number
 pub mod Options
+pub mod Passes
 pub mod Program
 pub mod Refusals
 pub mod Report
@@ -13,5 +15,6 @@ pub mod Run
 pub mod Says
 pub mod Simplify
 pub mod Status
+pub mod Tidy
 pub mod Words
 pub mod Writing

@@ -1,5 +1,5 @@
 -- The files that a command needs, by kind: a table with a column for each thing that reading a file goes by.
-use Rattle.std.specs.Prelude.{◌≡◌, ℕ, Option, Some, None, List, codes}
+use Rattle.std.specs.Prelude.{◌≡◌, ℕ, Option, Some, None, List, [], ◌∷◌, codes}
 use Rattle.gim_ast.specs.declared.function.Function.{Function}
 use Rattle.first_patterns.specs.declared.row.Row.{Row}
 use Rattle.first_patterns.specs.FirstForm.{SpellsFile}
@@ -18,6 +18,10 @@ use Rattle.gim_reader.specs.declared.TheConstants.{FILE_LIMIT}
 pub record Need : Type 0 where
   pub kind : Kind
   pub name : List ℕ
+
+-- a GIMPLE file alone
+abbrev pub functions_named : List ℕ → List Need
+functions_named name = record { kind = Functions; name = name } ∷ []
 
 -- ---- how each kind is refused
 

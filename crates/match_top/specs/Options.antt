@@ -4,7 +4,7 @@ use Rattle.std.specs.List.{list_any}
 use Rattle.std.specs.Option.{option_map_or}
 use Rattle.gim_ast.specs.Functions.{first_where}
 use Rattle.lexing.specs.Numbers.{number_below}
-use Rattle.match_top.specs.Words.{option_words}
+use Rattle.match_top.specs.Words.{is_name, option_words, positional}
 use Rattle.match_top.specs.declared.options.Flag.{Flag}
 use Rattle.match_top.specs.declared.options.Flag.TheVariants.{Fuel}
 use Rattle.match_top.specs.declared.options.Setting.{Setting}
@@ -82,3 +82,13 @@ settings_in allowed words = if_suited allowed (settings_of (option_words words))
 abbrev pub number_or : Flag → ℕ → List Setting → ℕ
 number_or flag other settings =
     option_map_or (λ (setting : Setting). setting.number) (first_where (λ (setting : Setting). is_same setting.flag flag) settings) other
+
+-- ---- commands of one file and no options
+
+abbrev pub file_from : Option (List Setting) → List (List ℕ) → Option (List ℕ)
+file_from (Some settings) (name ∷ []) = if is_name name then Some name else None
+file_from settings words = None
+
+-- the name of the file
+abbrev pub file_named : List (List ℕ) → Option (List ℕ)
+file_named words = file_from (settings_in [] words) (positional words)

@@ -1,5 +1,5 @@
 -- `run G F V.. [--fuel N]`: a function of a GIMPLE file, run on values.
-use Rattle.std.specs.Prelude.{ℕ, ◌==◌, nat_le, not, bytes_eq, if◌then◌else◌, ◌&&◌, Bool, true, false, ℤ, Option, Some, None, List, [], ◌∷◌, ◌++◌, length, codes, Ok, Err}
+use Rattle.std.specs.Prelude.{◌≡◌, ℕ, ◌==◌, nat_le, not, bytes_eq, if◌then◌else◌, ◌&&◌, Bool, true, false, ℤ, Option, Some, None, List, [], ◌∷◌, ◌++◌, length, codes, Ok, Err}
 use Rattle.std.specs.Fmt.{signed_decimal}
 use Rattle.std.specs.List.{list_all}
 use Rattle.pm_wide.specs.Types.{Word, value}
@@ -11,12 +11,11 @@ use Rattle.gim_printer.specs.Printing.{assigned_text}
 use Rattle.gim_ast.specs.Runs.{Outcome, Returned, Undefined, Running, run_of}
 use Rattle.gim_text.specs.Literals.{signed, word_in}
 use Rattle.match_top.specs.Answer.{Answer, refusal}
-use Rattle.match_top.specs.Needs.{Need}
+use Rattle.match_top.specs.Needs.{Need, functions_named}
 use Rattle.match_top.specs.Options.{settings_in, number_or}
 use Rattle.match_top.specs.Refusals.{line}
 use Rattle.match_top.specs.Words.{is_name, positional}
 use Rattle.match_top.specs.declared.options.Setting.{Setting}
-use Rattle.match_top.specs.declared.needs.Kind.TheVariants.{Functions}
 use Rattle.match_top.specs.declared.options.Flag.{Flag}
 use Rattle.match_top.specs.declared.options.Flag.TheVariants.{Fuel}
 use Rattle.match_top.specs.declared.commands.run.Run.{Run}
@@ -54,7 +53,7 @@ run_of_words words = run_from (settings_in run_flags words) (positional words)
 -- ---- its file and its work
 
 abbrev pub run_needs : Run → List Need
-run_needs command = record { kind = Functions; name = command.functions } ∷ []
+run_needs command = functions_named command.functions
 
 -- the number of a value
 abbrev pub number_of_value : List ℕ → ℤ
@@ -98,6 +97,9 @@ ran_by name values fuel (Some f) = run_answer name fuel f (arguments_of f.params
 
 unfoldable pub ran : Run → List Function → Answer
 ran command fs = ran_by command.name command.values command.fuel (function_named command.name fs)
+
+abbrev pub Runs : Run → List Function → Answer → Type 0
+Runs command fs answer = answer ≡ ran command fs
 
 -- how its work may end
 abbrev pub run_ends : Status → Bool

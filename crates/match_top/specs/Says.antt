@@ -1,6 +1,6 @@
 -- What each status says of the files that the inputs hold.
 use Rattle.std.specs.Prelude.{◌≡◌, ◌⊎◌, ℕ, ◌<◌, ◌≤◌, true, List, [], ◌∷◌, length, Option, Some, None, ⊤}
-use Rattle.match_top.specs.Answer.{status_of}
+use Rattle.match_top.specs.Answer.{Answer, status_of}
 use Rattle.match_top.specs.Commands.{needs_of, work_of, may_end}
 use Rattle.match_top.specs.Given.{Work}
 use Rattle.match_top.specs.Needs.{Need, Value, StandsFor, IsRefusedWith, cause_of, limit_of}
@@ -27,7 +27,7 @@ pub record IsRefused (kind : Kind) (holds : Option (List ℕ)) : Type 0 where
 module _ (held : List ℕ → Option (List ℕ)) where
   -- each file is accepted, and the work ends so
   abbrev pub Ends : (needs : List Need) → Work needs → Status → Type 0
-  Ends [] answer status = status_of answer ≡ status
+  Ends [] is_right status = (answer : Answer) × is_right answer × (status_of answer ≡ status)
   Ends (need ∷ needs) work status = (value : Value need.kind) × IsAccepted need.kind (held need.name) value × Ends needs (work value) status
 
   -- a file is refused for this cause, and those before it are accepted

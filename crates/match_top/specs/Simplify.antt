@@ -1,5 +1,5 @@
 -- `simplify P G`: the function of one file, rewritten by the rows of the other.
-use Rattle.std.specs.Prelude.{ℕ, Bool, true, false, if◌then◌else◌, ◌&&◌, Option, Some, None, List, [], ◌∷◌, Ok}
+use Rattle.std.specs.Prelude.{◌≡◌, ℕ, Bool, true, false, if◌then◌else◌, ◌&&◌, Option, Some, None, List, [], ◌∷◌, Ok}
 use Rattle.gim_ast.specs.declared.function.Function.{Function}
 use Rattle.gim_printer.specs.Printing.{text}
 use Rattle.first_rewriting.specs.Rewriting.{Rewritten, rewriting_of}
@@ -46,6 +46,9 @@ written file name done = record {
 
 unfoldable pub simplified : PatternFile → Function → Answer
 simplified file f = Ok (written file f.name (rewriting_of (row_at file.rows) budget f))
+
+abbrev pub Simplifies : PatternFile → Function → Answer → Type 0
+Simplifies file f answer = answer ≡ simplified file f
 
 -- how its work may end
 abbrev pub simplify_ends : Status → Bool

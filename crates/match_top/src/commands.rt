@@ -4,13 +4,17 @@ ghost use Rattle.match_top.specs.Commands.{command_of, needs_of, work_of};
 ghost use Rattle.match_top.specs.Given.{Answered};
 
 mod check;
+pub mod number;
 mod run;
 mod simplify;
+pub mod tidy;
 
 use crate::answer::{Output, Stop};
+use crate::options::file_named;
+use crate::passes::{self, Pass};
 use crate::refusals::refused;
 use crate::status::Cause;
-pub use check::Check;
+use crate::words::Word;
 use pm_io::Inputs;
 use pm_ops::OutOfMemory;
 pub use run::Run;
@@ -22,10 +26,14 @@ use std::alloc::Global;
 pub enum Command {
     /// `simplify P G`.
     Simplify(Simplify),
-    /// `check G`.
-    Check(Check),
+    /// `check G`, with the name of the file.
+    Check(Word),
     /// `run G F V.. [--fuel N]`.
     Run(Run),
+    /// `tidy G`, with the name of the file.
+    Tidy(Word),
+    /// `number G`, with the name of the file.
+    Number(Word),
 }
 
 /// The command that the words spell, or nothing where they spell none.
@@ -37,8 +45,10 @@ pub fn settings(alloc: Global, words: &[String]) -> Result<Option<Command>, OutO
     };
     match word.as_str() {
         "simplify" => Ok(simplify::spelled(alloc, rest)?.map(Command::Simplify)),
-        "check" => Ok(check::spelled(alloc, rest)?.map(Command::Check)),
+        "check" => Ok(file_named(alloc, rest)?.map(Command::Check)),
         "run" => Ok(run::spelled(alloc, rest)?.map(Command::Run)),
+        "tidy" => Ok(file_named(alloc, rest)?.map(Command::Tidy)),
+        "number" => Ok(file_named(alloc, rest)?.map(Command::Number)),
         _ => Ok(None),
     }
 }
@@ -54,8 +64,10 @@ pub fn answer<I: Inputs>(
 {
     match command {
         Some(Command::Simplify(command)) => simplify::answer(alloc, inputs, &command),
-        Some(Command::Check(command)) => check::answer(alloc, inputs, &command),
+        Some(Command::Check(name)) => check::answer(alloc, inputs, &name),
         Some(Command::Run(command)) => run::answer(alloc, inputs, &command),
+        Some(Command::Tidy(name)) => passes::answer(alloc, inputs, Pass::Tidying, &name),
+        Some(Command::Number(name)) => passes::answer(alloc, inputs, Pass::Numbering, &name),
         None => Err(refused(alloc, Cause::NoCommand, "match_cli: bad command line", "")),
     }
 }

@@ -8,19 +8,21 @@ ghost use Rattle.gim_ast.specs.Readable.{IsValid};
 ghost use Rattle.gim_text.specs.declared.limits.TheConstants.{BLOCK_LIMIT, NAME_LIMIT, NUMBER_LIMIT};
 ghost use Rattle.gim_round_trip.specs.ReadBack.{MayBeReadBack};
 ghost use Rattle.match_top.specs.Answer.{Answer, status_of, out_of};
-ghost use Rattle.match_top.specs.Check.{check_needs, checked};
+ghost use Rattle.match_top.specs.Check.{Checks};
+ghost use Rattle.match_top.specs.Commands.{needs_of, work_of};
 ghost use Rattle.match_top.specs.Functions.{IsAccepted};
-ghost use Rattle.match_top.specs.Given.{Work, AnswersHeld};
-ghost use Rattle.match_top.specs.Needs.{Need, limit_of};
+ghost use Rattle.match_top.specs.Given.{AnswersHeld};
+ghost use Rattle.match_top.specs.Needs.{limit_of, functions_named};
 ghost use Rattle.match_top.specs.declared.answer.Stop.TheVariants.{Memory};
-ghost use Rattle.match_top.specs.declared.commands.check.Check.{Check};
+ghost use Rattle.match_top.specs.declared.commands.Command.{Command};
 ghost use Rattle.match_top.specs.declared.needs.Kind.TheVariants.{Patterns, FirstForm, Functions};
 ghost use Rattle.match_top.specs.declared.status.Status.TheVariants.{Done};
 
-/// What is answered to held files is determined, but that memory may run out.
+/// What a command answers to held files is determined, but that memory may run out.
 pub fn one_answer()
-    ensures { (needs : List Need) (work : Work needs) (held : List ℕ → Option (List ℕ)) (a b : Answer) →
-        AnswersHeld needs work held a → AnswersHeld needs work held b →
+    ensures { (command : Option Command) (held : List ℕ → Option (List ℕ)) (a b : Answer) →
+        AnswersHeld (needs_of command) (work_of command) held a →
+        AnswersHeld (needs_of command) (work_of command) held b →
         (a ≡ b) ⊎ ((a ≡ Err Memory) ⊎ (b ≡ Err Memory)) }
 {}
 
@@ -31,9 +33,9 @@ pub fn printed_functions_are_accepted()
 
 /// What `check` prints is accepted, where it is no longer than a file may be, and printed again as it is.
 pub fn what_check_prints_it_prints_again()
-    ensures { (held : List ℕ → Option (List ℕ)) (command again : Check) (a b : Answer) →
-        AnswersHeld (check_needs command) checked held a → status_of a ≡ Done → held again.functions ≡ Some (out_of a) →
-        length (out_of a) ≤ limit_of Functions → AnswersHeld (check_needs again) checked held b → (b ≡ a) ⊎ (b ≡ Err Memory) }
+    ensures { (held : List ℕ → Option (List ℕ)) (name again : List ℕ) (a b : Answer) →
+        AnswersHeld (functions_named name) Checks held a → status_of a ≡ Done → held again ≡ Some (out_of a) →
+        length (out_of a) ≤ limit_of Functions → AnswersHeld (functions_named again) Checks held b → (b ≡ a) ⊎ (b ≡ Err Memory) }
 {}
 
 /// The limits of files and of functions that are read, in numbers.

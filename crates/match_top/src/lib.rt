@@ -10,7 +10,9 @@ mod given;
 pub mod laws;
 mod needs;
 mod options;
+mod passes;
 mod patterns;
+mod printing;
 mod program;
 mod refusals;
 mod report;
@@ -21,8 +23,3 @@ mod writing;
 pub use commands::{Command, settings};
 pub use program::run;
 pub use status::{Cause, Status};
-
-#[cfg(test)]
-mod file_tests;
-#[cfg(test)]
-mod tests;

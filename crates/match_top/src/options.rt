@@ -1,8 +1,9 @@
 //! Options: a table of names and greatest numbers, and what words say by them.
 ghost use Rattle.std.specs.Prelude.{◌≡◌, map, string_bytes, option_map, IfOk};
 ghost use Rattle.std.specs.List.{list_any};
-ghost use Rattle.match_top.specs.Options.{flag_named, greatest_of, number_in, is_same, is_set, suit, settings_of, if_suited, number_or};
+ghost use Rattle.match_top.specs.Options.{flag_named, greatest_of, number_in, is_same, is_set, suit, settings_of, if_suited, number_or, file_named};
 
+use crate::words::{Word, cut, is_name};
 use lexing::number_below;
 use pm_items::Items;
 use pm_ops::OutOfMemory;
@@ -147,4 +148,22 @@ pub fn number_or(flag: Flag, other: u32, settings: &[Setting]) -> u32
         }
     }
     other
+}
+
+/// The name that these words give to a command of one file and no options.
+pub fn file_named(alloc: Global, words: &[String]) -> Result<Option<Word>, OutOfMemory>
+    ensures { IfOk result (λ name. name ≡ file_named (map string_bytes words.now)) }
+{
+    let (positional, options) = cut(words);
+    let Some(_none) = settings_in(alloc, &[], options)? else {
+        return Ok(None);
+    };
+    let [name] = positional else {
+        return Ok(None);
+    };
+    if is_name(name) {
+        Ok(Some(Word::copy(alloc, name)?))
+    } else {
+        Ok(None)
+    }
 }

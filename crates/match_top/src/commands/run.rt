@@ -10,7 +10,7 @@ ghost use Rattle.gim_text.specs.Literals.{word_in};
 ghost use Rattle.match_top.specs.Answer.{IsOrMemory, OrMemory, refusal};
 ghost use Rattle.match_top.specs.Given.{Answered};
 ghost use Rattle.match_top.specs.Refusals.{line};
-ghost use Rattle.match_top.specs.Run.{run_of_words, run_needs, ran, is_size, is_value, number_of_value, arguments_of, function_named, is_named, outcome_answer};
+ghost use Rattle.match_top.specs.Run.{run_of_words, run_needs, Runs, ran, is_size, is_value, number_of_value, arguments_of, function_named, is_named, outcome_answer};
 ghost use Rattle.match_top.specs.declared.status.Cause.TheVariants as causes;
 ghost use Rattle.pm_wide.specs.Types.{value};
 
@@ -102,7 +102,7 @@ fn is_size(digits: &[u8]) -> bool
 
 /// Runs the function of a file on the values.
 pub fn answer<I: Inputs>(alloc: Global, inputs: &mut I, command: &Run) -> Result<Output, Stop>
-    ensures { Answered (run_needs command.now) (ran command.now) (I.state inputs.old) (I.state inputs.new) result }
+    ensures { Answered (run_needs command.now) (Runs command.now) (I.state inputs.old) (I.state inputs.new) result }
 {
     let functions = read_functions(alloc, inputs, command.functions.as_str())?;
     run_named(alloc, functions.as_slice(), command)

@@ -7,7 +7,7 @@ ghost use Rattle.first_rewriting.specs.Typed.{IsTyped};
 ghost use Rattle.first_rewriting.specs.Views.{rewritten};
 ghost use Rattle.match_top.specs.Answer.{IsOrMemory};
 ghost use Rattle.match_top.specs.Given.{Answered};
-ghost use Rattle.match_top.specs.Simplify.{simplify_of, simplify_needs, simplified, written};
+ghost use Rattle.match_top.specs.Simplify.{simplify_of, simplify_needs, Simplifies, simplified, written};
 
 use crate::answer::{Output, Stop};
 use crate::first_form::read_function;
@@ -57,7 +57,7 @@ pub fn spelled(alloc: Global, words: &[String]) -> Result<Option<Simplify>, OutO
 
 /// Rewrites the function of one file by the rows of the other.
 pub fn answer<I: Inputs>(alloc: Global, inputs: &mut I, command: &Simplify) -> Result<Output, Stop>
-    ensures { Answered (simplify_needs command.now) simplified (I.state inputs.old) (I.state inputs.new) result }
+    ensures { Answered (simplify_needs command.now) Simplifies (I.state inputs.old) (I.state inputs.new) result }
 {
     let patterns = read_patterns(alloc, inputs, command.patterns.as_str())?;
     let function = read_function(alloc, inputs, command.functions.as_str())?;

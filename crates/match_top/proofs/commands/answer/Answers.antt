@@ -12,5 +12,11 @@ returns-in-Some-Check-clause-answered g c = rw (c.in-Some-Check.is, c.in-Some-Ch
 pub returns-in-Some-Run-clause-answered : goal.returns-in-Some-Run-clause-answered
 returns-in-Some-Run-clause-answered g c = rw (c.in-Some-Run.is, c.in-Some-Run.field-0-is) c.answer-in-Some-Run.ensures
 
+pub returns-in-Some-Tidy-clause-answered : goal.returns-in-Some-Tidy-clause-answered
+returns-in-Some-Tidy-clause-answered g c = rw (c.in-Some-Tidy.is, c.in-Some-Tidy.field-0-is) c.answer-in-Some-Tidy.ensures
+
+pub returns-in-Some-Number-clause-answered : goal.returns-in-Some-Number-clause-answered
+returns-in-Some-Number-clause-answered g c = rw (c.in-Some-Number.is, c.in-Some-Number.field-0-is) c.answer-in-Some-Number.ensures
+
 pub returns-in-None-clause-answered : goal.returns-in-None-clause-answered
 returns-in-None-clause-answered g c = rw c.in-None.is (works (work_of None) _ _ (stop_or_memory _ c.refused.result c.refused.ensures))

@@ -1,9 +1,9 @@
 -- Read this, then work.
 use Rattle.std.proofs.lemmas.Result.{err_from_is_err_and}
-use Rattle.std.proofs.Common.{[], List, subst}
+use Rattle.std.proofs.Common.{[], List, ℕ, subst}
 use Rattle.gim_ast.specs.declared.function.Function.{Function}
-use Rattle.match_top.specs.Answer.{IsOrMemory}
-use Rattle.match_top.specs.Check.{checked}
+use Rattle.match_top.specs.Answer.{IsOrMemory, printed}
+use Rattle.match_top.specs.Check.{Checks}
 use Rattle.match_top.specs.declared.needs.Kind.TheVariants.{Functions}
 use Rattle.match_top.proofs.GivenLemmas.{named, goes_on, ends_here, works}
 use Rattle.match_top.proofs.commands.check.answer.Goals as goal
@@ -11,10 +11,11 @@ use Rattle.match_top.proofs.commands.check.answer.Goals as goal
 pub returns-in_err-functions : goal.returns-in_err-functions
 returns-in_err-functions g c =
     let p = err_from_is_err_and c.from_residual.result c.from_residual.ensures.1 in
-    rw (p.1, p.2) (ends_here (record { kind = Functions; name = c.args.command.now.functions }) [] checked _ _ _ (named Functions _ _ _ _ _ c.as_str.ensures c.in_err-functions.ensures.staged))
+    rw (p.1, p.2) (ends_here (record { kind = Functions; name = c.args.name.now }) [] Checks _ _ _ (named Functions _ _ _ _ _ c.as_str.ensures c.in_err-functions.ensures.staged))
 
 pub returns : goal.returns
 returns g c =
-    goes_on (record { kind = Functions; name = c.args.command.now.functions }) [] checked _ _ _ c.in_ok-functions.functions _
+    goes_on (record { kind = Functions; name = c.args.name.now }) [] Checks _ _ _ c.in_ok-functions.functions _
     (named Functions _ _ _ _ _ c.as_str.ensures c.in_ok-functions.ensures.staged)
-    (works (checked c.in_ok-functions.functions) _ _ (subst (λ (fs : List Function). IsOrMemory (checked fs) c.printed.result) c.as_slice.ensures c.printed.ensures))
+    (works (Checks c.in_ok-functions.functions) _ _ (subst (λ (report : List ℕ). IsOrMemory (printed c.in_ok-functions.functions report) c.printed.result) c.new.ensures
+    (subst (λ (fs : List Function). IsOrMemory (printed fs c.new.result) c.printed.result) c.as_slice.ensures c.printed.ensures)))

@@ -1,6 +1,6 @@
-//! `check` and `run` over files in memory, with texts worked out by hand.
+//! The commands of one GIMPLE file, over files in memory, with texts worked out by hand.
 
-use super::*;
+use match_top::run;
 use pm_io::{SureInputs, SureSink};
 use std::alloc::{AllocError, Global};
 use std::process::Abort;
@@ -119,4 +119,38 @@ fn words_without_a_command(rt: HostRuntime) -> Result<(), Fail> {
         bad,
     )?;
     compare(&rt, &["run", "--fuel", "5", "G", "f", "1"], SAME, bad)
+}
+
+/// A branch on two constants, a block that nothing reaches then, and a phi of one operand then.
+const KNOWN: &str =
+    "unsigned int __GIMPLE (ssa)\nf (unsigned int x)\n{\n  unsigned int y;\n\n  __BB(2):\n  if (1 != 0)\n    goto __BB3;\n  else\n    goto __BB4;\n\n  __BB(3):\n  goto __BB5;\n\n  __BB(4):\n  goto __BB5;\n\n  __BB(5):\n  y_2 = __PHI (__BB3: x_1(D), __BB4: 7u);\n  return y_2;\n}\n";
+
+/// The same, tidied.
+const TIDY: &str =
+    "unsigned int __GIMPLE (ssa)\nf (unsigned int x)\n{\n  unsigned int y;\n\n  __BB(2):\n  goto __BB3;\n\n  __BB(3):\n  goto __BB5;\n\n  __BB(5):\n  return x_1(D);\n}\n";
+
+/// Two equal sums.
+const SUMS: &str =
+    "int __GIMPLE (ssa)\nf (int a, int b)\n{\n  int s;\n  int _4;\n  int _5;\n\n  __BB(2):\n  s_3 = a_1(D) + b_2(D);\n  _4 = a_1(D) + b_2(D);\n  _5 = s_3 * _4;\n  return _5;\n}\n";
+
+/// The same, numbered.
+const ONE_SUM: &str =
+    "int __GIMPLE (ssa)\nf (int a, int b)\n{\n  int s;\n  int _4;\n  int _5;\n\n  __BB(2):\n  s_3 = a_1(D) + b_2(D);\n  _5 = s_3 * s_3;\n  return _5;\n}\n";
+
+#[test]
+fn functions_are_tidied(rt: HostRuntime) -> Result<(), Fail> {
+    compare(
+        &rt,
+        &["tidy", "G"],
+        KNOWN,
+        (0, TIDY, "f: branch __BB2\nf: dropped __BB4\nf: phi y_2\n"),
+    )?;
+    compare(&rt, &["tidy", "G"], TIDY, (0, TIDY, ""))?;
+    compare(&rt, &["tidy", "q"], TIDY, (5, "", "missing: q\n"))
+}
+
+#[test]
+fn values_are_numbered(rt: HostRuntime) -> Result<(), Fail> {
+    compare(&rt, &["number", "G"], SUMS, (0, ONE_SUM, "f: _4 = s_3\n"))?;
+    compare(&rt, &["number", "G"], ONE_SUM, (0, ONE_SUM, ""))
 }

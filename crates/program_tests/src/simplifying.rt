@@ -1,6 +1,6 @@
 //! Whole runs over inputs and sinks in memory, with texts worked out by hand.
 
-use super::*;
+use match_top::run;
 use pm_io::{SureInputs, SureSink};
 use std::alloc::{AllocError, Global};
 use std::process::Abort;
