@@ -6,6 +6,12 @@ mod changes;
 #[cfg(test)]
 mod functions;
 #[cfg(test)]
+mod numbering;
+#[cfg(test)]
+mod readability;
+#[cfg(test)]
 mod runs;
+#[cfg(test)]
+mod sums;
 #[cfg(test)]
 mod tidying;

@@ -1,6 +1,5 @@
 pub mod AmongLemmas
 pub mod CheckLemmas
-pub mod ExampleLemmas
 pub mod FlowMarks
 pub mod HeadLemmas
 pub mod LineLemmas

@@ -1,6 +1,5 @@
 pub mod Checking
 pub mod Circles
-pub mod Examples
 pub mod Heads
 pub mod Known
 pub mod Layout

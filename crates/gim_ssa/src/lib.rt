@@ -28,6 +28,3 @@ mod walks;
 pub use checking::check;
 pub use fault::CheckFault;
 pub use readability::{Reach, Reading};
-
-#[cfg(test)]
-mod tests;
