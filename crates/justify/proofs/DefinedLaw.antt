@@ -13,7 +13,8 @@ use Rattle.pm_term.specs.Trees.{Tree, name, constant, node, Trees, nil, cons, ty
 use Rattle.pm_term.proofs.TermLaws.{values_are_words}
 use Rattle.ring_forms.proofs.RingLaw.{one_word}
 use Rattle.ring_forms.proofs.SameAtoms.{equal_over_table}
-use Rattle.justify.specs.DefinedByRule.{always_has_value, IsFineConstant, HasNode, HaveNode, AreRingEqualInOrder, IsTwin, HasFineConstant, IsDefinedByRule, IsDefined, AreDefined}
+use Rattle.justify.specs.DefinedByRule.{always_has_value, IsFineConstant, HasNode, HaveNode, AreRingEqualInOrder, IsTwin, HasFineConstant, IsDefinedAlone, IsKnownFrom, IsDefinedByRule, IsDefined, AreDefined}
+use Rattle.justify.proofs.KnownExactly.{known_some}
 use Rattle.justify.proofs.OperationValues.{always_some, fine_some}
 
 pub some_value : {X : Type 0} (o : Option X) → IsSome o → (x : X) × (o ≡ Some x)
@@ -89,11 +90,13 @@ module _ (words : ℕ → Ty → Word) (given : GivesWords words) where
 
   module _ (left : Tree) (wl : IsWellTyped left) (valued : HasValues words left) where
     by_rule : (code : Code) (ty : Ty) (args : Trees) (ws : List Word) → IsWellTyped (node code ty args) → term_values words args ≡ Some ws → IsDefinedByRule left code ty args → IsSome (operation_value code ty ws)
-    by_rule code ty args ws w e (inl h) =
+    unfolding IsDefinedAlone IsKnownFrom
+    by_rule code ty args ws w e (inl (inl h)) =
         let are = operands_are_words args ws w.2 e in
         always_some code ty ws w.0 (subst (λ us. IsTrue (well_typed_operation code ty us)) (sym are.0) w.1) (subst (λ us. IsTrue (always_has_value code ty us)) (sym are.0) h) are.1
-    by_rule code ty args ws w e (inr (inl h)) = by_constant code ty args ws w.0 w.1 w.2 e h
-    by_rule code ty args ws w e (inr (inr h)) = by_twin code ty args ws w.2 e (twin_value code ty args left wl valued h)
+    by_rule code ty args ws w e (inl (inr h)) = by_constant code ty args ws w.0 w.1 w.2 e h
+    by_rule code ty args ws w e (inr (inl h)) = by_twin code ty args ws w.2 e (twin_value code ty args left wl valued h)
+    by_rule code ty args ws w e (inr (inr h)) = known_some words given code ty args ws w e left wl valued h
 
     mutual
       pub defined_value : (t : Tree) → IsWellTyped t → IsDefined left t → HasValues words t × IsSome (term_value words t)

@@ -1,10 +1,14 @@
 pub mod Choosing
+pub mod Comparisons
 pub mod DefinedLaw
 pub mod EachType
 pub mod EnumerationLaw
 pub mod FineConstants
+pub mod KnownExactly
 pub mod MethodLaws
 pub mod NodeLemmas
 pub mod OperandLists
 pub mod OperationValues
+pub mod OrderLaw
+pub mod Ranges
 pub mod Results

@@ -1,11 +1,11 @@
 -- The nodes of a term of the code.
-use Rattle.std.proofs.Common.{◌≡◌, Bool, true, false, ◌⊎◌, inl, inr, List, sym, subst, ap, ◌∙◌}
+use Rattle.std.proofs.Common.{◌≡◌, ℕ, Bool, true, false, ◌⊎◌, inl, inr, List, sym, subst, ap, ◌∙◌}
 use Rattle.std.specs.Prelude.{◌↔◌, IsTrue}
 use Rattle.pm_ops.specs.declared.code.Code.{Code}
-use Rattle.pm_wide.specs.Types.{Ty}
+use Rattle.pm_wide.specs.Types.{Ty, Word}
 use Rattle.pm_term.specs.Trees.{Tree, node}
 use Rattle.pm_term.specs.TermTrees.{tree_of, trees_of}
-use Rattle.pm_term.specs.TreeCodes.{tree_of-Node}
+use Rattle.pm_term.specs.TreeCodes.{tree_of-Name, tree_of-Const, tree_of-Node}
 use Rattle.pm_term.specs.declared.term.Term as term
 use Rattle.pm_term.specs.declared.term.Term.{Term}
 use Rattle.justify.specs.DefinedByRule.{HasNode, HaveNode, IsDefinedByRule, IsDefined, AreDefined}
@@ -29,3 +29,12 @@ module _ (t : Term) (code : Code) (ty : Ty) (args : List Term) (is : t ≡ term.
   -- and one that isn't
   pub undefined_node : (left : Tree) (a : Bool) → a ≡ false → (IsTrue a ↔ IsDefinedByRule left code ty (trees_of args)) → IsTrue a ↔ IsDefined left (tree_of t)
   undefined_node left a not_so own = subst (λ u. IsTrue a ↔ IsDefined left u) (sym tree_is) ((λ h. cc), (λ h. own.1 h.0))
+
+-- a name, and a constant, is its own one node
+pub name_node : (t : Term) (version : ℕ) (ty : Ty) → t ≡ term.Name version ty → (P : Tree → Type 0) (b : Bool) → (IsTrue b ↔ P (tree_of (term.Name version ty))) → IsTrue b ↔ HasNode P (tree_of t)
+name_node t version ty is P b h =
+    subst (λ u. IsTrue b ↔ HasNode P u) (sym (ap tree_of is ∙ tree_of-Name version ty)) (subst (λ u. IsTrue b ↔ P u) (tree_of-Name version ty) h)
+
+pub constant_node : (t : Term) (word : Word) → t ≡ term.Const word → (P : Tree → Type 0) (b : Bool) → (IsTrue b ↔ P (tree_of (term.Const word))) → IsTrue b ↔ HasNode P (tree_of t)
+constant_node t word is P b h =
+    subst (λ u. IsTrue b ↔ HasNode P u) (sym (ap tree_of is ∙ tree_of-Const word)) (subst (λ u. IsTrue b ↔ P u) (tree_of-Const word) h)

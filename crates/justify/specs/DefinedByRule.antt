@@ -1,10 +1,11 @@
 -- When each operation of a right side is known to have a value wherever the left side has one.
-use Rattle.std.specs.Prelude.{◌≡◌, ◌==◌, ◌⊎◌, ⊤, IsTrue, Bool, true, false, not, ◌&&◌, Option, Some, None, List, [], ◌∷◌, pos, negsuc}
+use Rattle.std.specs.Prelude.{◌≡◌, ◌==◌, ◌⊎◌, ⊤, IsTrue, Bool, true, false, not, ◌&&◌, Option, Some, None, List, [], ◌∷◌, ℤ, pos, negsuc}
 use Rattle.pm_ops.specs.declared.code.Code.{Code}
 use Rattle.pm_ops.specs.declared.code.Code.TheVariants.{Plus, Minus, Mult, TruncDiv, TruncMod, Negate, Abs, Lshift, Rshift}
 use Rattle.pm_wide.specs.Operations.{int_same, shifts}
-use Rattle.pm_wide.specs.Types.{Ty, Word, value, same_type, bool_type}
-use Rattle.pm_term.specs.Trees.{Tree, name, constant, node, Trees, nil, cons, types_of}
+use Rattle.pm_wide.specs.Types.{Ty, Word, value, in_range, same_type, bool_type}
+use Rattle.pm_term.specs.Trees.{Tree, name, constant, node, Trees, nil, cons, type_of, types_of}
+use Rattle.ring_forms.specs.Differences.{AreOneExactly, exact_number}
 use Rattle.ring_forms.specs.RingForms.{AreRingEqual}
 
 -- first: the operation has a value on all words of its operands' types. A shift is so by a _Bool
@@ -46,6 +47,16 @@ abbrev pub IsTwin : Code → Ty → Trees → Tree → Type 0
 IsTwin code ty args (node c t xs) = (c ≡ code) × (t ≡ ty) × AreRingEqualInOrder xs args
 IsTwin code ty args _ = ⊥
 
+-- third: a node of the left side of its type has its exact form, or that is a number in its range
+abbrev pub HasExactForm : Tree → Tree → Type 0
+HasExactForm t u = (type_of u ≡ type_of t) × AreOneExactly (cons u nil) (cons t nil)
+
+abbrev pub IsNumberInRange : Tree → Type 0
+IsNumberInRange t = (z : ℤ) × (exact_number (cons t nil) ≡ Some z) × IsTrue (in_range (type_of t) z)
+
+unfoldable pub IsKnownExactly : Tree → Tree → Type 0
+IsKnownExactly left t = HasNode (HasExactForm t) left ⊎ IsNumberInRange t
+
 -- fourth: a shift by a constant in range, or a division or remainder by a constant other than 0 and
 -- -1, which no word of an unsigned type has as its value
 abbrev pub constant_of : Tree → Option Word
@@ -66,10 +77,15 @@ IsFineConstant _ ty word = ⊥
 abbrev pub HasFineConstant : Code → Ty → Trees → Type 0
 HasFineConstant code ty args = (word : Word) × (second_constant args ≡ Some word) × IsFineConstant code ty word
 
--- an operation is defined by rule in one of these cases
+-- an operation is defined by rule by itself, or from the left side
+unfoldable pub IsDefinedAlone : Code → Ty → Trees → Type 0
+IsDefinedAlone code ty args = IsTrue (always_has_value code ty (types_of args)) ⊎ HasFineConstant code ty args
+
+unfoldable pub IsKnownFrom : Tree → Code → Ty → Trees → Type 0
+IsKnownFrom left code ty args = HasNode (IsTwin code ty args) left ⊎ IsKnownExactly left (node code ty args)
+
 abbrev pub IsDefinedByRule : Tree → Code → Ty → Trees → Type 0
-IsDefinedByRule left code ty args =
-    IsTrue (always_has_value code ty (types_of args)) ⊎ HasFineConstant code ty args ⊎ HasNode (IsTwin code ty args) left
+IsDefinedByRule left code ty args = IsDefinedAlone code ty args ⊎ IsKnownFrom left code ty args
 
 abbrev mutual
   -- each operation of a right side is defined by rule

@@ -3,10 +3,12 @@ ghost use Rattle.std.specs.Prelude.{◌≡◌, ◌↔◌, ◌&&◌, not, pos, ne
 ghost use Rattle.pm_wide.specs.Operations.{int_same};
 ghost use Rattle.pm_wide.specs.Types.{value};
 ghost use Rattle.pm_term.specs.TermTrees.{tree_of, trees_of};
-ghost use Rattle.pm_term.specs.Trees.{node, types_of, type_of, IsWellTyped, AreWellTyped};
+ghost use Rattle.pm_term.specs.Trees.{node, types_of, IsWellTyped, AreWellTyped};
 ghost use Rattle.ring_forms.specs.RingForms.{AreRingEqual};
-ghost use Rattle.justify.specs.DefinedByRule.{always_has_value, has_truth_count, constant_of, second_constant, HasFineConstant, IsFineConstant, IsTwin, HasNode, HaveNode, AreRingEqualInOrder, IsDefinedByRule, IsDefined, AreDefined};
+ghost use Rattle.justify.specs.DefinedByRule.{always_has_value, has_truth_count, constant_of, second_constant, HasFineConstant, IsFineConstant, IsTwin, HasNode, HaveNode, AreRingEqualInOrder, IsKnownExactly, IsDefinedAlone, IsKnownFrom, IsDefinedByRule, IsDefined, AreDefined};
 
+use crate::exact::is_known_exactly;
+use crate::parts::type_of;
 use pm_ops::{Code, OutOfMemory};
 use pm_term::{Term, Typed};
 use pm_wide::{IntType, Wide};
@@ -25,7 +27,7 @@ pub(crate) fn is_defined(alloc: Global, term: &Term, left: &Term) -> Result<bool
         Term::Node(code, ty, args) => {
             let args = args.as_slice();
             Ok(
-                is_defined_by_rule(alloc, left, *code, *ty, args)?
+                is_defined_by_rule(alloc, left, term, *code, *ty, args)?
                     && are_defined(alloc, args, left)?,
             )
         }
@@ -51,19 +53,63 @@ fn are_defined(alloc: Global, terms: &[Term], left: &Term) -> Result<bool, OutOf
 fn is_defined_by_rule(
     alloc: Global,
     left: &Term,
+    whole: &Term,
     code: Code,
     ty: IntType,
     args: &[Term],
 ) -> Result<bool, OutOfMemory>
     requires left { IsWellTyped (tree_of left.now) }
+    requires whole { IsWellTyped (tree_of whole.now) }
     requires args { AreWellTyped (trees_of args.now) }
+    requires parts { tree_of whole.now ≡ node code ty (trees_of args.now) }
     ensures { IfOk result (λ b. IsTrue b ↔ IsDefinedByRule (tree_of left.now) code ty (trees_of args.now)) }
 {
-    Ok(
-        always_has_value(code, ty, args)
-            || has_fine_constant(code, ty, args)
-            || has_twin(alloc, left, code, ty, args)?,
-    )
+    Ok(is_defined_alone(code, ty, args) || is_known_from(alloc, left, whole, code, ty, args)?)
+}
+
+/// Whether an operation on these terms is defined by rule whatever the left side is.
+#[tactic(auto, unfolding(crate::specs::DefinedByRule::IsDefinedAlone))]
+fn is_defined_alone(code: Code, ty: IntType, args: &[Term]) -> bool
+    ensures { IsTrue result ↔ IsDefinedAlone code ty (trees_of args.now) }
+{
+    always_has_value(code, ty, args) || has_fine_constant(code, ty, args)
+}
+
+/// Whether an operation on these terms, which is that whole term, is known to have a value from this
+/// left side, or from its exact form.
+#[tactic(auto, unfolding(crate::specs::DefinedByRule::IsKnownFrom))]
+fn is_known_from(
+    alloc: Global,
+    left: &Term,
+    whole: &Term,
+    code: Code,
+    ty: IntType,
+    args: &[Term],
+) -> Result<bool, OutOfMemory>
+    requires left { IsWellTyped (tree_of left.now) }
+    requires whole { IsWellTyped (tree_of whole.now) }
+    requires args { AreWellTyped (trees_of args.now) }
+    requires parts { tree_of whole.now ≡ node code ty (trees_of args.now) }
+    ensures { IfOk result (λ b. IsTrue b ↔ IsKnownFrom (tree_of left.now) code ty (trees_of args.now)) }
+{
+    Ok(has_twin(alloc, left, code, ty, args)? || is_known_as(alloc, whole, left, code, ty, args)?)
+}
+
+/// Whether the exact form of an operation on these terms tells that it has a value.
+fn is_known_as(
+    alloc: Global,
+    whole: &Term,
+    left: &Term,
+    code: Code,
+    ty: IntType,
+    args: &[Term],
+) -> Result<bool, OutOfMemory>
+    requires left { IsWellTyped (tree_of left.now) }
+    requires whole { IsWellTyped (tree_of whole.now) }
+    requires parts { tree_of whole.now ≡ node code ty (trees_of args.now) }
+    ensures { IfOk result (λ b. IsTrue b ↔ IsKnownExactly (tree_of left.now) (node code ty (trees_of args.now))) }
+{
+    is_known_exactly(alloc, whole, left)
 }
 
 /// Whether an operation on these terms has a value on all words of their types.
@@ -86,16 +132,6 @@ fn has_truth_count(ty: IntType, args: &[Term]) -> bool
     match args {
         [_, count] => type_of(count) == IntType::boolean() && ty.bits() != 1,
         _ => false,
-    }
-}
-
-/// The type of a term.
-fn type_of(term: &Term) -> IntType
-    ensures { result ≡ type_of (tree_of term.now) }
-{
-    match term {
-        Term::Name(_, ty) | Term::Node(_, ty, _) => *ty,
-        Term::Const(word) => word.ty(),
     }
 }
 

@@ -4,8 +4,11 @@
 
 mod defined;
 mod enumeration;
+mod exact;
 pub mod laws;
 mod method;
 mod names;
+mod order;
+mod parts;
 
 pub use method::{Instance, Method, justify};

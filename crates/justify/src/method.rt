@@ -3,14 +3,16 @@ ghost use Rattle.std.specs.Prelude.{◌≡◌, ◌↔◌, IsTrue, IfOk, IfSome};
 ghost use Rattle.pm_term.specs.Refines.{Refines};
 ghost use Rattle.bit_tables.specs.TableEqual.{AreTableEqual};
 ghost use Rattle.justify.specs.DefinedByRule.{IsDefined};
-ghost use Rattle.justify.specs.Methods.{AreWithinLimits, AreEqualAsSums, AreEqualAsBits, IsMethod};
+ghost use Rattle.justify.specs.Order.{AreRelatedByOrder};
+ghost use Rattle.justify.specs.Methods.{AreWithinLimits, AreEqualAsSums, AreEqualAsBits, AreEqualByOrder, IsMethod};
 
 use crate::defined::is_defined;
 use crate::enumeration::are_enumerated;
+use crate::order::are_related_by_order;
+use crate::parts::is_one_type;
 use bit_tables::table_equal;
 use pm_ops::OutOfMemory;
 use pm_term::Typed;
-use pm_wide::IntType;
 use ring_forms::ring_equal;
 use std::alloc::Global;
 
@@ -28,6 +30,8 @@ pub enum Method {
     Ring,
     /// They are sums of bitwise terms that agree under all words.
     Table,
+    /// They are comparisons whose operands have one difference, or a comparison and what it tells.
+    Order,
     /// Their names have few bits, and all words of them were tried.
     Enumerate,
 }
@@ -56,6 +60,9 @@ fn first_method(alloc: Global, left: &Typed, right: &Typed) -> Result<Option<Met
     if are_equal_as_bits(alloc, left, right)? {
         return Ok(Some(Method::Table));
     }
+    if are_equal_by_order(alloc, left, right)? {
+        return Ok(Some(Method::Order));
+    }
     if are_enumerated(alloc, left, right)? {
         return Ok(Some(Method::Enumerate));
     }
@@ -67,13 +74,6 @@ fn are_within_limits(left: &Typed, right: &Typed) -> bool
     ensures { IsTrue result ↔ AreWithinLimits left.now right.now }
 {
     is_one_type(left.ty(), right.ty()) && left.operators() <= 4096 && right.operators() <= 4096
-}
-
-/// Whether the two are one type.
-fn is_one_type(a: IntType, b: IntType) -> bool
-    ensures { IsTrue result ↔ (a ≡ b) }
-{
-    a == b
 }
 
 /// Whether the ring method holds.
@@ -88,6 +88,23 @@ fn are_equal_as_bits(alloc: Global, left: &Typed, right: &Typed) -> Result<bool,
     ensures { IfOk result (λ b. IsTrue b ↔ AreEqualAsBits left.now right.now) }
 {
     Ok(is_table_equal(left, right) && is_known(alloc, left, right)?)
+}
+
+/// Whether the order method holds.
+fn are_equal_by_order(alloc: Global, left: &Typed, right: &Typed) -> Result<bool, OutOfMemory>
+    ensures { IfOk result (λ b. IsTrue b ↔ AreEqualByOrder left.now right.now) }
+{
+    Ok(is_related(alloc, left, right)? && is_known(alloc, left, right)?)
+}
+
+/// Whether two terms are related by order.
+fn is_related(alloc: Global, left: &Typed, right: &Typed) -> Result<bool, OutOfMemory>
+    ensures { IfOk result (λ b. IsTrue b ↔ AreRelatedByOrder left.now right.now) }
+{
+    let left = left.term();
+    let right = right.term();
+    let related = are_related_by_order(alloc, left, right)?;
+    Ok(related)
 }
 
 /// Whether two terms are table equal.
