@@ -13,3 +13,6 @@ pub mod WideValuesExact
 pub mod DeclarationsExact
 pub mod BracesExact
 pub mod SyntaxAnswers
+pub mod OneOutcome
+pub mod PartReadings
+pub mod OneArgument
