@@ -16,3 +16,4 @@ pub mod SyntaxAnswers
 pub mod OneOutcome
 pub mod PartReadings
 pub mod OneArgument
+pub mod ThirdFault

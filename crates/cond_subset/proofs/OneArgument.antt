@@ -1,5 +1,5 @@
 -- Of a list with more than one argument there is no only one.
-use Rattle.std.proofs.Common.{◌≡◌, List, [], ◌∷◌, ◌++◌, Option, None, refl}
+use Rattle.std.proofs.Common.{◌≡◌, List, [], ◌∷◌, ◌++◌, None, refl}
 use Rattle.pd_ast.specs.declared.c_text.CExpr.{CExpr}
 use Rattle.cond_subset.specs.Making.{only_one}
 

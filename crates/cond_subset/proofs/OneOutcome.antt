@@ -1,7 +1,7 @@
 -- A C part comes to one outcome: a tree or a first fault. What is answered of one is that outcome.
-use Rattle.std.proofs.Common.{◌≡◌, Bool, true, false, List, [], ◌∷◌, ◌++◌, Result, Ok, Err, refl, sym, ap, subst, ◌∙◌, ◌⊎◌, inl, inr}
+use Rattle.std.proofs.Common.{◌≡◌, Bool, true, false, List, [], ◌∷◌, ◌++◌, Result, Ok, Err, refl, sym, ap, subst, ◌∙◌, inl, inr}
 use Rattle.std.specs.Prelude.{IfOk, IfErr}
-use Rattle.std.proofs.lemmas.List.{append_assoc, append-nil}
+use Rattle.std.proofs.lemmas.List.{append_assoc}
 use Rattle.grammar.specs.Spelling.{Spelling, Begins}
 use Rattle.grammar.specs.Whole.{IsFirstFault, IsReading}
 use Rattle.grammar.proofs.Lists.{Between, Beyond, cuts}

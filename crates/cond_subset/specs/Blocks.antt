@@ -1,5 +1,5 @@
 -- The declarations that a `with` block stands for whose names are known, or their first fault of types.
-use Rattle.std.specs.Prelude.{ℕ, true, false, List, [], ◌∷◌, ◌++◌, map, Option, Some, None, Result, Ok, Err}
+use Rattle.std.specs.Prelude.{ℕ, true, false, List, [], ◌∷◌, ◌++◌, map, Option, Some, None, Result, Ok}
 use Rattle.pm_ops.specs.Names.{Name}
 use Rattle.pm_ops.specs.declared.fault.PatternFault.{PatternFault}
 use Rattle.pm_places.specs.declared.span.Span.{Span}
@@ -17,7 +17,7 @@ use Rattle.cond_subset.specs.declared.tree.Callee.{Callee}
 use Rattle.cond_subset.specs.declared.tree.FlaggedCall.{FlaggedCall}
 use Rattle.cond_subset.specs.declared.tree.DeclWord.{DeclWord}
 use Rattle.cond_subset.specs.declared.tree.DeclWord.TheVariants as declared
-use Rattle.cond_subset.specs.Trees.{Expr, exprs}
+use Rattle.cond_subset.specs.Trees.{exprs}
 use Rattle.cond_subset.specs.Declarations.{Value, plain, flagged, Decl, valued, overflow}
 use Rattle.cond_subset.specs.Names.{callee_name}
 use Rattle.cond_subset.specs.Types.{and_then, or_fault_at, declared_type, flagged_type}

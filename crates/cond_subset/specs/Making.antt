@@ -1,11 +1,9 @@
 -- The typed tree that an expression stands for whose names are known, or its first fault of types: a line a form.
-use Rattle.std.specs.Prelude.{ℕ, ◌||◌, Bool, true, false, List, [], ◌∷◌, ◌++◌, map, Option, Some, None, Result, Ok, Err, codes, if◌then◌else◌}
+use Rattle.std.specs.Prelude.{ℕ, Bool, true, false, List, [], ◌∷◌, ◌++◌, map, Option, Some, None, Result, Ok, Err, codes, if◌then◌else◌}
 use Rattle.std.specs.Str.{bytes_eq}
-use Rattle.pm_ops.specs.Names.{Name}
 use Rattle.pm_ops.specs.declared.fault.PatternFault.{PatternFault}
 use Rattle.pm_ops.specs.declared.fault.PatternKind.TheVariants as kinds
 use Rattle.pm_places.specs.declared.span.Span.{Span}
-use Rattle.pm_places.specs.FirstFaults.{or_fault}
 use Rattle.pm_places.specs.Spans.{text_of}
 use Rattle.pd_ast.specs.Operators.{unary_name, binary_name}
 use Rattle.pd_ast.specs.declared.c_text.CExpr.{CExpr}
@@ -21,7 +19,7 @@ use Rattle.cond_subset.specs.declared.scope.Typed.{Typed}
 use Rattle.cond_subset.specs.declared.tree.Callee.{Callee}
 use Rattle.cond_subset.specs.Trees.{Expr, number, capture, named, parens, unary, binary, choose, call, Exprs, nil, cons}
 use Rattle.cond_subset.specs.Syntax.{fault_at}
-use Rattle.cond_subset.specs.Names.{callee_name, is_code_test, unknown}
+use Rattle.cond_subset.specs.Names.{callee_name, is_code_test}
 use Rattle.cond_subset.specs.Signatures.{unary_type, binary_type, same_type}
 use Rattle.cond_subset.specs.Types.{and_then, or_fault_at, choice_type, code_type, called_type, start_of}
 use Rattle.cond_subset.specs.Leaves.{typed, type_of, number_of, capture_name, name_meaning}
