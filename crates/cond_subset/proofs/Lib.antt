@@ -13,3 +13,7 @@ pub mod WideValuesExact
 pub mod DeclarationsExact
 pub mod BracesExact
 pub mod SyntaxAnswers
+pub mod OneOutcome
+pub mod PartReadings
+pub mod OneArgument
+pub mod ThirdFault

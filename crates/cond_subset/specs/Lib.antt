@@ -12,3 +12,7 @@ pub mod WholeReaders
 pub mod Names
 pub mod Signatures
 pub mod Types
+pub mod Leaves
+pub mod Making
+pub mod Blocks
+pub mod Outcomes

@@ -1,14 +1,11 @@
-//! C parts over text: how operators group, and where the first fault of each stage stands.
+//! C parts over text: how operators group, and where the first fault of each kind stands.
 
-use cond_subset::{
-    DeclText, ExprText, Local, Scope, ValueText, block_syntax, block_types, brace_syntax,
-    check_block_names, check_names, cond_syntax, cond_type,
-};
-use pd_ast::CType;
+use crate::environments::{fault_text, scope_of};
+use cond_subset::{ExprText, cond_syntax, parse_block, parse_brace, parse_cond};
 use pd_lexer::lex;
-use pm_items::Items;
-use pm_ops::{PatternFault, PatternKind, Text};
+use pm_ops::PatternFault;
 use std::alloc::Global;
+use std::process::Abort;
 use std::test::Fail;
 
 /// The place of the outermost operator, or of what is no operation.
@@ -26,36 +23,6 @@ fn cond(alloc: Global, text: &str) -> Result<usize, PatternFault> {
     let tokens = lex(alloc, text.as_bytes())?;
     let expr = cond_syntax(alloc, &tokens, text.as_bytes())?;
     Ok(outermost(&expr))
-}
-
-/// The place of the outermost operator of an operand in braces.
-fn brace(alloc: Global, text: &str) -> Result<usize, PatternFault> {
-    let tokens = lex(alloc, text.as_bytes())?;
-    let expr = brace_syntax(alloc, &tokens, text.as_bytes())?;
-    Ok(outermost(&expr))
-}
-
-/// How many declarations a block has, and 100 more for each with a flag.
-fn block(alloc: Global, text: &str) -> Result<usize, PatternFault> {
-    let tokens = lex(alloc, text.as_bytes())?;
-    let decls = block_syntax(alloc, &tokens, text.as_bytes())?;
-    let mut count: usize = 0;
-    for decl in decls.as_slice() {
-        let more = match decl {
-            DeclText::Valued(_, _, ValueText::Flagged(_, _, _)) => 101,
-            _ => 1,
-        };
-        count = count.saturating_add(more);
-    }
-    Ok(count)
-}
-
-/// The place and length of a fault of syntax; 99 where there is none.
-fn fault(read: Result<usize, PatternFault>) -> (usize, usize) {
-    match read {
-        Err(fault) if fault.kind == PatternKind::CSyntax => (fault.at, fault.len),
-        _ => (99, 99),
-    }
 }
 
 /// Each level binds tighter than the next; operators group to the left, `?:` to the right.
@@ -98,173 +65,238 @@ fn outermost_operators(rt: HostRuntime) -> Result<(), Fail> {
     Ok(())
 }
 
+/// What a part comes to: `ok`, or its fault. The part is the condition of an `if`, the inside of
+/// `{`, or that of a `with` block. `op` is an identifier of a `for`, `w` a word, and `t` an operand.
+fn outcome(alloc: Global, part: &str, text: &str) -> Result<String, PatternFault> {
+    let source = text.as_bytes();
+    let scope = scope_of(alloc, &["w"])?;
+    let tokens = lex(alloc, source)?;
+    let fault = match part {
+        "if" => parse_cond(alloc, &tokens, source, &scope).err(),
+        "{" => parse_brace(alloc, &tokens, source, &scope).err(),
+        _ => parse_block(alloc, &tokens, source, &scope).err(),
+    };
+    match fault {
+        Some(fault) => Ok(fault_text(alloc, fault, 0)?),
+        None => Ok(format!(in alloc; "ok")?),
+    }
+}
+
 /// The first offending token, or just after the last one.
+const SYNTAX_OF_CONDITIONS: [(&str, &str, &str); 24] = [
+    ("if", "", "CSyntax 0 0"),
+    ("if", "1 +", "CSyntax 3 0"),
+    ("if", "1 + ", "CSyntax 3 0"),
+    ("if", "a b", "CSyntax 2 1"),
+    ("if", "a ? b", "CSyntax 5 0"),
+    ("if", "a ? b ; c", "CSyntax 6 1"),
+    ("if", "(a, b)", "CSyntax 2 1"),
+    ("if", "f (a,)", "CSyntax 5 1"),
+    ("if", "f (a b)", "CSyntax 5 1"),
+    ("if", "x::f (a)", "CSyntax 1 2"),
+    ("if", "wi::f", "CSyntax 5 0"),
+    ("if", "wi::(a)", "CSyntax 4 1"),
+    ("if", "a / b", "CSyntax 2 1"),
+    ("if", "a << b", "CSyntax 2 2"),
+    ("if", "@@x + 1", "CSyntax 0 3"),
+    ("if", "\"a\"", "CSyntax 0 3"),
+    ("if", "f (a, b, c, &n)", "CSyntax 12 1"),
+    ("if", "a)", "CSyntax 1 1"),
+    ("if", "true;", "CSyntax 4 1"),
+    ("{", "", "CSyntax 0 0"),
+    ("{", "@0;;", "CSyntax 3 1"),
+    ("{", ";", "CSyntax 0 1"),
+    ("{", "@0 }", "CSyntax 3 1"),
+    ("{", "x +", "CSyntax 3 0"),
+];
+
+/// The same of blocks: where a flag may not stand, among them.
+const SYNTAX_OF_BLOCKS: [(&str, &str, &str); 14] = [
+    ("with", "int i = 1", "CSyntax 9 0"),
+    ("with", "int = 1;", "CSyntax 4 1"),
+    ("with", "int i 1;", "CSyntax 6 1"),
+    ("with", "x y = 1;", "CSyntax 0 1"),
+    ("with", "wi::foo o;", "CSyntax 4 3"),
+    ("with", "wi::overflow_type o = 1;", "CSyntax 20 1"),
+    ("with", "wide_int w = wi::add (a, b, &o);", "CSyntax 28 1"),
+    (
+        "with",
+        "wide_int w = wi::add (a, b, s, t, &o);",
+        "CSyntax 34 1",
+    ),
+    ("with", "wide_int w = wi::neg (a, b, &o);", "CSyntax 28 1"),
+    (
+        "with",
+        "wide_int w = wi::add (a, b, s, &o) + c;",
+        "CSyntax 35 1",
+    ),
+    (
+        "with",
+        "wide_int w = (wi::add (a, b, s, &o));",
+        "CSyntax 32 1",
+    ),
+    (
+        "with",
+        "wide_int w = wi::bit_and (a, b, c, &o);",
+        "CSyntax 35 1",
+    ),
+    ("with", "int w = wi::add (a, b, s, &o);", "CSyntax 26 1"),
+    ("with", "int i = 1; }", "CSyntax 11 1"),
+];
+
+/// The first unknown name or call of a condition.
+const NAMES_OF_CONDITIONS: [(&str, &str, &str); 19] = [
+    ("if", "single_use (x)", "CName 12 1"),
+    ("if", "x == 1 || y", "CName 0 1"),
+    ("if", "1 == true || x", "CName 13 1"),
+    ("if", "w == 1", "ok"),
+    ("if", "op == PLUS_EXPR", "ok"),
+    ("if", "INTEGER_CST == 1", "CName 0 11"),
+    ("if", "(TREE_CODE (@0)) == INTEGER_CST", "CName 20 11"),
+    ("if", "INTEGER_CST == TREE_CODE (@0)", "CName 0 11"),
+    ("if", "TREE_CODE == 1", "CName 0 9"),
+    ("if", "wi::foo (w)", "CName 4 3"),
+    ("if", "foo (w)", "CName 0 3"),
+    ("if", "foo (x)", "CName 0 3"),
+    ("if", "true ? x : y", "CName 7 1"),
+    ("if", "wi::TREE_CODE (@0) == SSA_NAME", "CName 4 9"),
+    ("if", "type == type && single_use (t)", "ok"),
+    ("if", "TREE_CODE (@0) == INTEGER_CST", "ok"),
+    ("if", "TREE_CODE (@0) != SSA_NAME", "ok"),
+    ("if", "types_match (@0, type)", "ok"),
+    ("if", "wi::eq_p (w, wi::to_wide (@0))", "ok"),
+];
+
+/// The first place of a condition that does not fit.
+const TYPES_OF_CONDITIONS: [(&str, &str, &str); 25] = [
+    ("if", "1 == true", "CType 2 2"),
+    ("if", "w < 1", "CType 2 1"),
+    ("if", "1 + 2", "CType 0 1"),
+    ("if", "@0", "CType 0 2"),
+    ("if", "(1)", "CType 0 1"),
+    ("if", "-w", "CType 0 1"),
+    ("if", "!1", "CType 0 1"),
+    ("if", "~1 == 1", "CType 0 1"),
+    ("if", "op ? true : false", "CType 3 1"),
+    ("if", "true ? type : w == w", "CType 5 1"),
+    ("if", "true ? 1 : w", "CType 5 1"),
+    ("if", "1 + true == 2 && !1", "CType 2 1"),
+    ("if", "w & 1", "CType 2 1"),
+    ("if", "true && 1", "CType 5 2"),
+    ("if", "@0 == @0", "CType 3 2"),
+    ("if", "1 ? 2 : 3 * type", "CType 10 1"),
+    ("if", "TREE_CODE (w) != SSA_NAME", "CType 0 9"),
+    ("if", "TREE_CODE (@0, @1) == SSA_NAME", "CType 0 9"),
+    ("if", "TREE_CODE (1 + true) == SSA_NAME", "CType 13 1"),
+    ("if", "TREE_CODE (@0)", "CType 0 9"),
+    ("if", "TREE_CODE (@0) == PLUS_EXPR", "CType 0 9"),
+    ("if", "wi::eq_p (1, 2)", "CType 4 4"),
+    ("if", "single_use ()", "CType 0 10"),
+    ("if", "single_use (1 + true)", "CType 14 1"),
+    ("if", "wi::to_wide (@0)", "CType 0 2"),
+];
+
+/// Names and types of operands in braces and of blocks.
+const OTHER_PARTS: [(&str, &str, &str); 29] = [
+    ("{", "@0", "ok"),
+    ("{", "@0;", "ok"),
+    ("{", "t;", "ok"),
+    ("{", "build_zero_cst (type)", "ok"),
+    ("{", "x", "CName 0 1"),
+    ("{", "type + x;", "CName 7 1"),
+    ("{", "wi::foo (@0)", "CName 4 3"),
+    ("{", "true", "CType 0 4"),
+    ("{", "w + 1;", "CType 0 1"),
+    ("{", "build_zero_cst (@0)", "CType 0 14"),
+    ("{", "@0 + @0", "CType 3 1"),
+    ("{", "true ? @0 : @1", "ok"),
+    ("with", "", "ok"),
+    (
+        "with",
+        "wi::overflow_type o; wide_int w = wi::add (w, 1, SIGNED, &o); bool b = o;",
+        "ok",
+    ),
+    ("with", "wi::overflow_type o; bool b = o;", "CName 30 1"),
+    (
+        "with",
+        "wi::overflow_type o; wide_int v = o ? w : wi::add (w, 1, SIGNED);",
+        "CName 34 1",
+    ),
+    ("with", "wide_int v = wi::neg (w, &o);", "CName 26 1"),
+    ("with", "int i = i;", "CName 8 1"),
+    ("with", "wi::overflow_type w; wide_int v = w;", "CName 34 1"),
+    (
+        "with",
+        "wi::overflow_type op; tree_code c = op;",
+        "CName 36 2",
+    ),
+    ("with", "bool b = 1; bool c = x;", "CName 21 1"),
+    ("with", "wide_int v = wi::neg (w, &w);", "CType 17 3"),
+    ("with", "wide_int v = wi::neg (1, &w);", "CType 17 3"),
+    ("with", "bool w = true; wide_int v = w;", "CType 24 1"),
+    ("with", "tree x = 1;", "CType 5 1"),
+    (
+        "with",
+        "int t = 1; tree u = t; tree type = 1;",
+        "CType 28 4",
+    ),
+    ("with", "bool b = true + 1; int c = true;", "CType 14 1"),
+    (
+        "with",
+        "wi::overflow_type o; int o = 1; wide_int v = wi::neg (w, &o);",
+        "CType 49 3",
+    ),
+    (
+        "with",
+        "wi::overflow_type o; wide_int o = wi::neg (w, &o); wide_int v = wi::neg (o, &o);",
+        "CType 68 3",
+    ),
+];
+
+/// A row comes to what it says.
+fn judge(rt: &impl Abort, alloc: Global, row: (&str, &str, &str)) -> Result<(), PatternFault> {
+    let (part, text, expected) = row;
+    let found = outcome(alloc, part, text)?;
+    assert_eq!(rt; found.as_str(), expected, "{text}");
+    Ok(())
+}
+
 #[test]
-fn first_faults(rt: HostRuntime) -> Result<(), Fail> {
-    for (text, at, len) in [
-        ("", 0, 0),
-        ("1 +", 3, 0),
-        ("1 + ", 3, 0),
-        ("a b", 2, 1),
-        ("a ? b", 5, 0),
-        ("a ? b ; c", 6, 1),
-        ("(a, b)", 2, 1),
-        ("f (a,)", 5, 1),
-        ("f (a b)", 5, 1),
-        ("x::f (a)", 1, 2),
-        ("wi::f", 5, 0),
-        ("wi::(a)", 4, 1),
-        ("a / b", 2, 1),
-        ("a << b", 2, 2),
-        ("@@x + 1", 0, 3),
-        ("\"a\"", 0, 3),
-        ("f (a, b, c, &n)", 12, 1),
-        ("a)", 1, 1),
-    ] {
-        let found = fault(cond(rt.alloc(), text));
-        assert_eq!(rt; found, (at, len));
+fn syntax_of_conditions(rt: HostRuntime) -> Result<(), Fail> {
+    for row in SYNTAX_OF_CONDITIONS {
+        judge(&rt, rt.alloc(), row)?;
     }
     Ok(())
 }
 
-/// Declarations of each word, flags where they may stand alone, and operands in braces.
 #[test]
-fn blocks_and_braces(rt: HostRuntime) -> Result<(), Fail> {
-    for (text, count) in [
-        ("", 0),
-        (
-            "tree t = type; bool b = !c; int i = 1; unsigned u = 2; signop s = SIGNED;",
-            5,
-        ),
-        ("tree_code c = PLUS_EXPR; wi::overflow_type o;", 2),
-        (
-            "wide_int w = wi::add (a, b, s, &o); wide_int v = wi::neg (a, &o);",
-            202,
-        ),
-        (
-            "wide_int w = wi::sub (a, b, s, o) + c; wide_int v = wi::mul ();",
-            2,
-        ),
-        ("wide_int int = wi::add (a) + wi::neg (b, c);", 1),
-    ] {
-        let found = block(rt.alloc(), text)?;
-        assert_eq!(rt; found, count);
+fn syntax_of_blocks(rt: HostRuntime) -> Result<(), Fail> {
+    for row in SYNTAX_OF_BLOCKS {
+        judge(&rt, rt.alloc(), row)?;
     }
-    for (text, at, len) in [
-        ("int i = 1", 9, 0),
-        ("int = 1;", 4, 1),
-        ("int i 1;", 6, 1),
-        ("x y = 1;", 0, 1),
-        ("wi::foo o;", 4, 3),
-        ("wide_int w = wi::add (a, b, &o);", 28, 1),
-        ("wide_int w = wi::add (a, b, s, t, &o);", 34, 1),
-        ("wide_int w = wi::neg (a, b, &o);", 28, 1),
-        ("wide_int w = wi::add (a, b, s, &o) + c;", 35, 1),
-        ("wide_int w = (wi::add (a, b, s, &o));", 32, 1),
-        ("wide_int w = wi::bit_and (a, b, c, &o);", 35, 1),
-        ("int w = wi::add (a, b, s, &o);", 26, 1),
-        ("int i = 1; }", 11, 1),
-    ] {
-        let found = fault(block(rt.alloc(), text));
-        assert_eq!(rt; found, (at, len));
-    }
-    assert_eq!(rt; brace(rt.alloc(), "a + b;")?, 2);
-    assert_eq!(rt; brace(rt.alloc(), "a + b")?, 2);
-    assert_eq!(rt; fault(brace(rt.alloc(), "a;;")), (2, 1));
-    assert_eq!(rt; fault(brace(rt.alloc(), ";")), (0, 1));
     Ok(())
 }
 
-/// A scope with the identifier `op` of a `for`, and the local `w`, a word.
-fn scope(alloc: Global) -> Result<Scope, PatternFault> {
-    let mut choices = Items::new(alloc);
-    choices.push(Text::new(alloc, b"op")?)?;
-    let mut locals = Items::new(alloc);
-    locals.push(Local {
-        name: Text::new(alloc, b"w")?,
-        ty: CType::WideRef,
-    })?;
-    Ok(Scope {
-        captures: Items::new(alloc),
-        choices,
-        locals,
-        in_match: false,
-    })
-}
-
-/// The first fault of a condition's names, then of its types.
-fn judged(alloc: Global, text: &str) -> Result<(), PatternFault> {
-    let source = text.as_bytes();
-    let scope = scope(alloc)?;
-    let tokens = lex(alloc, source)?;
-    let expr = cond_syntax(alloc, &tokens, source)?;
-    check_names(alloc, source, &scope, &expr)?;
-    let _ty = cond_type(alloc, source, &scope, &expr)?;
-    Ok(())
-}
-
-/// The same of a block.
-fn judged_block(alloc: Global, text: &str) -> Result<(), PatternFault> {
-    let source = text.as_bytes();
-    let scope = scope(alloc)?;
-    let tokens = lex(alloc, source)?;
-    let decls = block_syntax(alloc, &tokens, source)?;
-    check_block_names(alloc, source, &scope, decls.as_slice())?;
-    let _block = block_types(alloc, source, &scope, decls.as_slice())?;
-    Ok(())
-}
-
-/// The place of a fault of names, 100 more for one of types, 99 for none.
-fn place(judged: Result<(), PatternFault>) -> usize {
-    match judged {
-        Ok(()) => 99,
-        Err(fault) if fault.kind == PatternKind::CName => fault.at,
-        Err(fault) if fault.kind == PatternKind::CType => fault.at.saturating_add(100),
-        Err(_) => 98,
-    }
-}
-
-/// Conditions: unknown names first, then what does not fit.
 #[test]
-fn names_and_types(rt: HostRuntime) -> Result<(), Fail> {
-    for (text, at) in [
-        ("single_use (x)", 12),
-        ("x == 1 || y", 0),
-        ("1 == true", 102),
-        ("1 == true || x", 13),
-        ("w == 1", 99),
-        ("w < 1", 102),
-        ("1 + 2", 100),
-        ("t == t", 0),
-        ("op == PLUS_EXPR", 99),
-        ("op ? 1 : 2", 103),
-        ("TREE_CODE (@0) == INTEGER_CST", 99),
-        ("TREE_CODE (w) != SSA_NAME", 100),
-        ("(TREE_CODE (@0)) == INTEGER_CST", 20),
-        ("TREE_CODE (@0)", 100),
-        ("wi::eq_p (w, wi::to_wide (@0))", 99),
-        ("wi::eq_p (1, 2)", 104),
-        ("wi::foo (w)", 4),
-        ("foo (w)", 0),
-        ("types_match (@0, type)", 99),
-        ("true ? type : w == w", 105),
-    ] {
-        assert_eq!(rt; place(judged(rt.alloc(), text)), at);
+fn names_of_conditions(rt: HostRuntime) -> Result<(), Fail> {
+    for row in NAMES_OF_CONDITIONS {
+        judge(&rt, rt.alloc(), row)?;
     }
-    for (text, at) in [
-        (
-            "wi::overflow_type o; wide_int w = wi::add (w, 1, SIGNED, &o); bool b = o;",
-            99,
-        ),
-        ("wi::overflow_type o; bool b = o;", 30),
-        ("wide_int v = wi::neg (w, &w);", 117),
-        ("wide_int v = wi::neg (w, &o);", 26),
-        ("bool w = true; wide_int v = w;", 124),
-        ("int i = i;", 8),
-        ("tree x = 1;", 105),
-        ("wi::overflow_type w; wide_int v = w;", 34),
-    ] {
-        assert_eq!(rt; place(judged_block(rt.alloc(), text)), at);
+    Ok(())
+}
+
+#[test]
+fn types_of_conditions(rt: HostRuntime) -> Result<(), Fail> {
+    for row in TYPES_OF_CONDITIONS {
+        judge(&rt, rt.alloc(), row)?;
+    }
+    Ok(())
+}
+
+#[test]
+fn other_parts(rt: HostRuntime) -> Result<(), Fail> {
+    for row in OTHER_PARTS {
+        judge(&rt, rt.alloc(), row)?;
     }
     Ok(())
 }

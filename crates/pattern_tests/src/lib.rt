@@ -4,11 +4,11 @@
 #[cfg(test)]
 mod c_parts;
 #[cfg(test)]
+mod environments;
+#[cfg(test)]
 mod forms;
 #[cfg(test)]
 mod symbols;
-#[cfg(test)]
-mod texts;
 #[cfg(test)]
 mod tokens;
 #[cfg(test)]
