@@ -1,6 +1,7 @@
 pub mod FirstFormLemmas
 pub mod FunctionLemmas
 pub mod GivenLemmas
+pub mod KeptLemmas
 pub mod NameLemmas
 pub mod OneAnswer
 pub mod OptionLemmas

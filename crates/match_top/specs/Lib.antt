@@ -12,6 +12,7 @@ pub mod Program
 pub mod Refusals
 pub mod Report
 pub mod Run
+pub mod RunsAsRead
 pub mod Says
 pub mod Simplify
 pub mod Status

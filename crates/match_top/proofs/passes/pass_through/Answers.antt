@@ -1,5 +1,5 @@
 -- One function more, with its lines.
-use Rattle.std.proofs.Common.{◌+◌, List, take, sym, subst}
+use Rattle.std.proofs.Common.{◌+◌, take, sym, subst}
 use Rattle.std.proofs.lemmas.List.Elements.{All-nil, All-push}
 use Rattle.std.specs.Prelude.{All, IsTrue}
 use Rattle.gim_ast.specs.declared.function.Function.{Function}
