@@ -488,8 +488,8 @@ const FLAGGED: [(&str, &str, &str); 16] = [
     ("wi::add (w7, w8, SIGNED, &o)", "none", "none"),
     (
         "wi::add (wi::to_wide (@5), 3, &o)",
-        "CSyntax 63 1",
-        "CSyntax 63 1",
+        "CSyntax 64 1",
+        "CSyntax 64 1",
     ),
 ];
 
