@@ -6,12 +6,6 @@ mod changes;
 #[cfg(test)]
 mod functions;
 #[cfg(test)]
-mod numbering;
-#[cfg(test)]
-mod readability;
-#[cfg(test)]
 mod runs;
-#[cfg(test)]
-mod sums;
 #[cfg(test)]
 mod tidying;
