@@ -1,0 +1,9 @@
+pub mod Lists
+pub mod Loops
+pub mod Faults
+pub mod Chosen
+pub mod LeftOut
+pub mod Substituted
+pub mod Used
+pub mod Turns
+pub mod Expanded

@@ -1,0 +1,306 @@
+//! Forms cut into turns.
+ghost use Rattle.std.specs.Prelude.{◌≡◌, [], ◌∷◌, ◌++◌, map, IfOk};
+ghost use Rattle.for_expand.specs.Turns.{added_by, all_in, implied_list, implied_loops, list_made};
+ghost use Rattle.for_expand.specs.Turns.{list_of_head, loop_of, turns, turns_of, turns_of_for, under};
+ghost use Rattle.for_expand.specs.Turns.{case_turn, simplify_turn, with_loops};
+
+use crate::lists::{NamedList, entries_named, spread};
+use crate::loops::Loop;
+use crate::turn::{Setting, Turn};
+use crate::used::{lists_of_pattern, lists_of_result};
+use pd_ast::{CExpr, ForForm, ForHead, Form, MatchForm, PredRow, Row, SimplifyForm};
+use pm_items::{Items, Shared};
+use pm_ops::{OutOfMemory, Text};
+use std::alloc::Global;
+
+/// The turns of a file, in its order.
+pub fn turns(alloc: Global, forms: &[Form]) -> Result<Items<Turn>, OutOfMemory>
+    ensures { IfOk result (λ made. made ≡ turns forms.now) }
+{
+    let outside = Setting {
+        loops: Items::new(alloc),
+        conditions: Items::new(alloc),
+    };
+    let mut lists = Items::new(alloc);
+    let mut made = Items::new(alloc);
+    for form in forms {
+        made.append(turns_of(alloc, lists.as_slice(), form, &outside)?)?;
+        let added = added_by(alloc, lists.as_slice(), form)?;
+        lists.append(added)?;
+    }
+    Ok(made)
+}
+
+/// The list that a form adds to those above.
+fn added_by(
+    alloc: Global,
+    lists: &[NamedList],
+    form: &Form,
+) -> Result<Items<NamedList>, OutOfMemory>
+    ensures { IfOk result (λ made. made ≡ added_by lists.now form.now) }
+{
+    let mut made = Items::new(alloc);
+    match form {
+        Form::OpList(name, entries, at) => {
+            made.push(list_made(alloc, lists, name, entries.as_slice(), *at)?)?;
+            Ok(made)
+        }
+        Form::Simplify(_) | Form::Match(_) | Form::For(_) | Form::If(_, _) | Form::Preds(_) => {
+            Ok(made)
+        }
+    }
+}
+
+fn list_made(
+    alloc: Global,
+    lists: &[NamedList],
+    name: &Text,
+    entries: &[Text],
+    at: usize,
+) -> Result<NamedList, OutOfMemory>
+    ensures { IfOk result (λ made. made ≡ list_made lists.now name.now entries.now at) }
+{
+    Ok(NamedList {
+        name: name.copy(alloc)?,
+        at,
+        entries: spread(alloc, lists, entries)?,
+    })
+}
+
+/// The turns of a form, after these lists.
+#[cycle(turns_of)]
+fn turns_of(
+    alloc: Global,
+    lists: &[NamedList],
+    form: &Form,
+    setting: &Setting,
+) -> Result<Items<Turn>, OutOfMemory>
+    ensures { IfOk result (λ made. made ≡ turns_of lists.now form.now setting.now) }
+{
+    match form {
+        Form::Simplify(form) => alone(alloc, simplify_turn(alloc, lists, form, setting)?),
+        Form::Match(form) => alone(alloc, case_turn(alloc, lists, form, setting)?),
+        Form::For(form) => turns_of_for(alloc, lists, form, setting),
+        Form::If(when, forms) => {
+            let inner = under(alloc, when, setting)?;
+            all_in(alloc, lists, forms.as_slice(), &inner)
+        }
+        Form::OpList(name, entries, at) => {
+            let list = list_made(alloc, lists, name, entries.as_slice(), *at)?;
+            alone(alloc, Turn::List(list))
+        }
+        Form::Preds(_) => Ok(Items::new(alloc)),
+    }
+}
+
+#[cycle(turns_of)]
+fn turns_of_for(
+    alloc: Global,
+    lists: &[NamedList],
+    form: &ForForm,
+    setting: &Setting,
+) -> Result<Items<Turn>, OutOfMemory>
+    ensures { IfOk result (λ made. made ≡ turns_of_for lists.now form.now setting.now) }
+{
+    let own = loop_of(alloc, lists, form.at, form.heads.as_slice())?;
+    let inner = with_loops(alloc, setting, one_loop(alloc, own)?)?;
+    all_in(alloc, lists, form.body.as_slice(), &inner)
+}
+
+/// The turns of several forms in one setting.
+#[cycle(turns_of)]
+fn all_in(
+    alloc: Global,
+    lists: &[NamedList],
+    forms: &[Form],
+    setting: &Setting,
+) -> Result<Items<Turn>, OutOfMemory>
+    ensures { IfOk result (λ made. made ≡ all_in (map (turns_of lists.now) forms.now) setting.now) }
+{
+    let mut made = Items::new(alloc);
+    for form in forms {
+        made.append(turns_of(alloc, lists, form, setting)?)?;
+    }
+    Ok(made)
+}
+
+fn alone(alloc: Global, turn: Turn) -> Result<Items<Turn>, OutOfMemory>
+    ensures { IfOk result (λ made. made ≡ turn ∷ []) }
+{
+    let mut made = Items::new(alloc);
+    made.push(turn)?;
+    Ok(made)
+}
+
+fn one_loop(alloc: Global, own: Loop) -> Result<Items<Shared<Loop>>, OutOfMemory>
+    ensures { IfOk result (λ made. made ≡ own ∷ []) }
+{
+    let mut made = Items::new(alloc);
+    made.push(Shared::new(alloc, own)?)?;
+    Ok(made)
+}
+
+fn simplify_turn(
+    alloc: Global,
+    lists: &[NamedList],
+    form: &SimplifyForm,
+    setting: &Setting,
+) -> Result<Turn, OutOfMemory>
+    ensures { IfOk result (λ made. made ≡ simplify_turn lists.now form.now setting.now) }
+{
+    let mut used = lists_of_pattern(alloc, form.pattern.get())?;
+    used.append(lists_of_result(alloc, form.result.get())?)?;
+    let loops = implied_loops(alloc, lists, form.at, used.as_slice())?;
+    Ok(Turn::Simplify(
+        with_loops(alloc, setting, loops)?,
+        Row {
+            at: form.at,
+            pattern: form.pattern.share()?,
+            result: form.result.share()?,
+        },
+    ))
+}
+
+fn case_turn(
+    alloc: Global,
+    lists: &[NamedList],
+    form: &MatchForm,
+    setting: &Setting,
+) -> Result<Turn, OutOfMemory>
+    ensures { IfOk result (λ made. made ≡ case_turn lists.now form.now setting.now) }
+{
+    let used = lists_of_pattern(alloc, form.pattern.get())?;
+    let loops = implied_loops(alloc, lists, form.at, used.as_slice())?;
+    let setting = with_loops(alloc, setting, loops)?;
+    let row = PredRow {
+        at: form.at,
+        pattern: form.pattern.share()?,
+        tail: form.tail.share()?,
+    };
+    let params = copied_names(alloc, form.params.as_slice())?;
+    Ok(Turn::Case(setting, form.name.copy(alloc)?, params, row))
+}
+
+/// Copies of names.
+pub fn copied_names(alloc: Global, names: &[Text]) -> Result<Items<Text>, OutOfMemory>
+    ensures { IfOk result (λ made. made ≡ names.now) }
+{
+    let mut made = Items::new(alloc);
+    for name in names {
+        made.push(name.copy(alloc)?)?;
+    }
+    Ok(made)
+}
+
+/// The loop of a `for`.
+fn loop_of(
+    alloc: Global,
+    lists: &[NamedList],
+    at: usize,
+    heads: &[ForHead],
+) -> Result<Loop, OutOfMemory>
+    ensures { IfOk result (λ made. made ≡ loop_of lists.now at heads.now) }
+{
+    let mut made = Items::new(alloc);
+    for head in heads {
+        made.push(list_of_head(alloc, lists, head)?)?;
+    }
+    Ok(Loop { at, lists: made })
+}
+
+fn list_of_head(
+    alloc: Global,
+    lists: &[NamedList],
+    head: &ForHead,
+) -> Result<NamedList, OutOfMemory>
+    ensures { IfOk result (λ made. made ≡ list_of_head lists.now head.now) }
+{
+    list_made(alloc, lists, &head.name, head.entries.as_slice(), head.at)
+}
+
+/// The loop of the lists that stand as operators in a form, if there are any.
+fn implied_loops(
+    alloc: Global,
+    lists: &[NamedList],
+    at: usize,
+    names: &[Text],
+) -> Result<Items<Shared<Loop>>, OutOfMemory>
+    ensures { IfOk result (λ made. made ≡ implied_loops lists.now at names.now) }
+{
+    if names.is_empty() {
+        return Ok(Items::new(alloc));
+    }
+    let own = implied_lists(alloc, lists, at, names)?;
+    one_loop(alloc, Loop { at, lists: own })
+}
+
+fn implied_lists(
+    alloc: Global,
+    lists: &[NamedList],
+    at: usize,
+    names: &[Text],
+) -> Result<Items<NamedList>, OutOfMemory>
+    ensures { IfOk result (λ made. made ≡ map (implied_list lists.now at) names.now) }
+{
+    let mut made = Items::new(alloc);
+    for name in names {
+        made.push(NamedList {
+            name: name.copy(alloc)?,
+            at,
+            entries: entries_named(alloc, lists, name)?,
+        })?;
+    }
+    Ok(made)
+}
+
+/// The setting, with further loops inside the others.
+fn with_loops(
+    alloc: Global,
+    setting: &Setting,
+    loops: Items<Shared<Loop>>,
+) -> Result<Setting, OutOfMemory>
+    ensures { IfOk result (λ made. made ≡ with_loops setting.now loops) }
+{
+    let mut all = shared_loops(alloc, setting.loops.as_slice())?;
+    all.append(loops)?;
+    Ok(Setting {
+        loops: all,
+        conditions: shared_conditions(alloc, setting.conditions.as_slice())?,
+    })
+}
+
+/// The setting, with a further condition inside the others.
+fn under(alloc: Global, when: &CExpr, setting: &Setting) -> Result<Setting, OutOfMemory>
+    ensures { IfOk result (λ made. made ≡ under when.now setting.now) }
+{
+    let mut conditions = Items::new(alloc);
+    conditions.push(Shared::new(alloc, when.copy(alloc)?)?)?;
+    conditions.append(shared_conditions(alloc, setting.conditions.as_slice())?)?;
+    Ok(Setting {
+        loops: shared_loops(alloc, setting.loops.as_slice())?,
+        conditions,
+    })
+}
+
+fn shared_loops(alloc: Global, loops: &[Shared<Loop>]) -> Result<Items<Shared<Loop>>, OutOfMemory>
+    ensures { IfOk result (λ made. made ≡ loops.now) }
+{
+    let mut made = Items::new(alloc);
+    for one in loops {
+        made.push(one.share()?)?;
+    }
+    Ok(made)
+}
+
+fn shared_conditions(
+    alloc: Global,
+    conditions: &[Shared<CExpr>],
+) -> Result<Items<Shared<CExpr>>, OutOfMemory>
+    ensures { IfOk result (λ made. made ≡ conditions.now) }
+{
+    let mut made = Items::new(alloc);
+    for when in conditions {
+        made.push(when.share()?)?;
+    }
+    Ok(made)
+}
