@@ -18,4 +18,6 @@ pub use leaf::read_leaf;
 pub use pattern::read_pattern;
 pub use result::read_result;
 pub use tail::read_tail;
-pub use tree::{HeadText, LeafText, PatternText, ResultText, TailText};
+pub use tree::{
+    CaseHeadText, FormText, HeadText, LeafText, ListText, PatternText, ResultText, TailText,
+};
