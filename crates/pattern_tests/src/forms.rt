@@ -1,7 +1,8 @@
-//! Patterns and results over text, and what is too deep or too long.
+//! Patterns, results and whole files over text, and what is too deep or too long.
 
 use grammar::Stop;
-use pd_forms::{check_depth, read_leaf, read_pattern, read_result, read_tail};
+use pd_forms::{FormText, check_depth, read_file, read_leaf, read_pattern, read_result, read_tail};
+use pm_items::Items;
 use pd_lexer::lex;
 use pd_text::{Symbol, SymbolFault, meanings};
 use pm_ops::{PatternFault, PatternKind};
@@ -205,5 +206,142 @@ fn limits_of_depth(rt: HostRuntime) -> Result<(), Fail> {
         let source = with_many(rt.alloc(), text, byte, count)?;
         assert_eq!(rt; depth(rt.alloc(), &source)?, end);
     }
+    Ok(())
+}
+
+/// The forms of a file.
+fn forms(alloc: Global, source: &[u8]) -> Result<Items<FormText>, PatternFault> {
+    let tokens = lex(alloc, source)?;
+    let symbols = meanings(alloc, &tokens, source)?;
+    read_file(alloc, source.len(), &symbols)
+}
+
+fn file(alloc: Global, source: &[u8]) -> End {
+    match forms(alloc, source) {
+        Ok(_) => End::Read(source.len()),
+        Err(fault) => match fault.kind {
+            PatternKind::Syntax => End::Syntax(fault.at),
+            PatternKind::CSyntax => End::CSyntax(fault.at),
+            _ => End::Other,
+        },
+    }
+}
+
+/// Each form is read, also where a quoted word is a name.
+#[test]
+fn files(rt: HostRuntime) -> Result<(), Fail> {
+    for text in [
+        "",
+        "(simplify (plus @0 integer_zerop) @0)",
+        "(simplify (if @0) (if (1) @0))",
+        "(match foo (plus:c @0 @1))",
+        "(match foo @0) (match foo integer_zerop@0 (if (1)))",
+        "(match (foo @0 @x) (plus @0 @x) (with { int n = 1; } (if (n == 1))))",
+        "(for op (plus minus) (simplify (op @0 @0) @0))",
+        "(for if () for (null match) (simplify (if @0) @0) (match for @0))",
+        "(if (1) (simplify (plus @0 @1) @0) (if (0) (for op (l) (match x @0))))",
+        "(define_operator_list l plus minus) (define_operator_list if)",
+        "(define_predicates integer_zerop for) (define_predicates) // none",
+    ] {
+        assert_eq!(rt; file(rt.alloc(), text.as_bytes()), End::Read(text.len()));
+    }
+    Ok(())
+}
+
+/// What offends at the top and in a `simplify`.
+#[test]
+fn faults_at_the_top(rt: HostRuntime) -> Result<(), Fail> {
+    for (text, end) in [
+        ("simplify", End::Syntax(0)),
+        (")", End::Syntax(0)),
+        ("(", End::Syntax(1)),
+        ("( // more\n", End::Syntax(10)),
+        ("(plus @0)", End::Syntax(1)),
+        ("(define_predicates x) @0", End::Syntax(22)),
+        ("(define_predicates @0)", End::Syntax(19)),
+        ("(define_predicates", End::Syntax(18)),
+        ("(define_operator_list)", End::Syntax(21)),
+        ("(define_operator_list l (plus))", End::Syntax(24)),
+        ("(simplify @0 @0)", End::Syntax(10)),
+        ("(simplify integer_zerop @0)", End::Syntax(10)),
+        ("(simplify (plus @0) )", End::Syntax(20)),
+        ("(simplify (plus @0) @0 @1)", End::Syntax(23)),
+        ("(simplify (plus @0) @0", End::Syntax(22)),
+        ("(simplify (plus @0) { 1; 2 })", End::CSyntax(25)),
+        ("(simplify (plus @0) { 1", End::CSyntax(23)),
+    ] {
+        assert_eq!(rt; file(rt.alloc(), text.as_bytes()), end);
+    }
+    Ok(())
+}
+
+/// What offends in the cases of predicates. Parameters are captures with one `@`, not joined.
+#[test]
+fn faults_in_cases(rt: HostRuntime) -> Result<(), Fail> {
+    for (text, end) in [
+        ("(match @0 @0)", End::Syntax(7)),
+        ("(match foo)", End::Syntax(10)),
+        ("(match foo@0 @1)", End::Syntax(10)),
+        ("(match foo @0 @1)", End::Syntax(14)),
+        ("(match foo @0 (plus @1))", End::Syntax(15)),
+        ("(match foo @0 (if 1))", End::Syntax(18)),
+        ("(match foo @0 (if ()))", End::CSyntax(19)),
+        ("(match foo @0 (if (1", End::CSyntax(20)),
+        ("(match (@0) @0)", End::Syntax(8)),
+        ("(match (foo) @0)", End::Syntax(11)),
+        ("(match (foo@0) @0)", End::Syntax(11)),
+        ("(match (foo @@0) @0)", End::Syntax(12)),
+        ("(match (foo @0 plus) @0)", End::Syntax(15)),
+        ("(match (foo @0", End::Syntax(14)),
+    ] {
+        assert_eq!(rt; file(rt.alloc(), text.as_bytes()), end);
+    }
+    Ok(())
+}
+
+/// What offends in forms that hold forms. A list of operators or predicates stands in none.
+#[test]
+fn faults_round_forms(rt: HostRuntime) -> Result<(), Fail> {
+    for (text, end) in [
+        ("(for (simplify (plus @0) @0))", End::Syntax(5)),
+        ("(for op plus (match x @0))", End::Syntax(8)),
+        ("(for op (plus @0) (match x @0))", End::Syntax(14)),
+        ("(for op (plus))", End::Syntax(14)),
+        ("(for op (plus) (match x @0) op2", End::Syntax(28)),
+        ("(for op (plus) (define_predicates x))", End::Syntax(16)),
+        ("(if (1) (define_operator_list x))", End::Syntax(9)),
+        ("(if (1))", End::Syntax(7)),
+        ("(if 1 (match x @0))", End::Syntax(4)),
+        ("(if (1 (match x @0))", End::CSyntax(7)),
+        ("(if (", End::CSyntax(5)),
+        ("(if (1) (match x @0)", End::Syntax(20)),
+    ] {
+        assert_eq!(rt; file(rt.alloc(), text.as_bytes()), end);
+    }
+    Ok(())
+}
+
+/// Where the form begins, and how many lists, forms or parameters it has.
+fn parts(form: &FormText) -> (usize, usize, usize) {
+    match form {
+        FormText::Simplify(at, _, _) => (at.from, 0, 0),
+        FormText::Match(at, head, _, _) => (at.from, head.name.from, head.parameters.len()),
+        FormText::For(at, lists, body) => (at.from, lists.len(), body.len()),
+        FormText::If(_, body) => (0, 0, body.len()),
+        FormText::OperatorList(list) => (0, list.name.from, list.entries.len()),
+        FormText::Predicates(names) => (0, 0, names.len()),
+    }
+}
+
+/// The trees have the forms in their order, with their places.
+#[test]
+fn trees_of_forms(rt: HostRuntime) -> Result<(), Fail> {
+    let text = "(define_operator_list l a b)(for c (l) d (e) (match (f @0 @1) @0)) (match g @0)";
+    let read = forms(rt.alloc(), text.as_bytes())?;
+    let mut found = Vec::new(rt.alloc());
+    for form in read.as_slice() {
+        found.push(parts(form))?;
+    }
+    assert_eq!(rt; found.as_slice(), &[(0, 22, 2), (28, 2, 1), (67, 74, 0)]);
     Ok(())
 }

@@ -9,3 +9,6 @@ mod LeavesExact
 mod SwitchItems
 mod ResultsExact
 mod TailsExact
+mod ListsExact
+mod FormsExact
+mod FilesExact

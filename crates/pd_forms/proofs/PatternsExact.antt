@@ -7,7 +7,7 @@ use Rattle.grammar.specs.Exact.{IsExact}
 use Rattle.grammar.proofs.Parts as parts
 use Rattle.grammar.proofs.Sequence.{token_then}
 use Rattle.grammar.proofs.Recursion.{by_length}
-use Rattle.grammar.proofs.EveryInput.{Reads, one_token, seen_by}
+use Rattle.grammar.proofs.EveryInput.{Reads, one_token, seen_by, after_token, in_words}
 use Rattle.grammar.proofs.Starts.{Begun, meant_begun, front_begun, widen_begun}
 use Rattle.pm_ops.specs.declared.fault.PatternKind.TheVariants.{Syntax}
 use Rattle.pm_places.specs.declared.span.Span.{Span}
@@ -22,6 +22,8 @@ use Rattle.pd_forms.specs.SymbolReaders.{mark_at, identifier_at, joined, maybe_a
 use Rattle.pd_forms.specs.Trees.{Pattern, capture, predicate, operation, Patterns, nil, cons, operands}
 use Rattle.pd_forms.specs.PatternReaders.{whole_pattern_at, Inner, Start, captured, named, opened, start, begins_pattern, operation_at, after_start, pattern_at, patterns_at}
 use Rattle.pd_forms.specs.Grammar.{IsJoined, unjoined, SpellsMaybe, SpellsPattern, SpellsPatterns}
+use Rattle.pd_forms.specs.Forms.{is_operation}
+use Rattle.pd_forms.specs.FormReaders.{node_at}
 use Rattle.pd_forms.proofs.BoundedReading as bounded
 use Rattle.pd_forms.proofs.BoundedReading.{ReadsBelow}
 use Rattle.pd_forms.proofs.HeadsExact.{maybe_reads, maybe_begun, items_begun, GoesOnHead, question_goes_on, colon_no_question, HeadAfter, head_after_reads}
@@ -325,3 +327,39 @@ patterns_exact = by_length patterns_at AreExact deeper
 
 pub pattern_reads : Reads SpellsPattern IsJoined whole_pattern_at
 pattern_reads = record { some = some_pattern; exact = λ input. patterns_exact (length input + 1) input (omega arith) }
+
+-- a pattern that is an operation
+
+abbrev pub Node : Spelling Symbol Pattern
+Node p w = (is_operation p ≡ true) × SpellsPattern p w
+
+good_below : (n : ℕ) → ReadsBelow n SpellsPattern IsJoined (patterns_at n)
+good_below n = record { some = some_pattern; exact = λ rest below. patterns_exact n rest below }
+
+operation_reads : (at : Span) → Reads (Opened at) IsJoined (λ input. operation_at (patterns_at (length input + 1)) at input)
+operation_reads at = record {
+  some = (opened_below 0 (patterns_at 0) (good_below 0) at).some;
+  exact = λ input. (opened_below (length input + 1) (patterns_at (length input + 1)) (good_below (length input + 1)) at).exact input (omega arith);
+}
+
+opened_is : (at : Span) (p : Pattern) (v : List Symbol) → Opened at p v → is_operation p ≡ true
+opened_is at p v (name, u₁, v₁, word, (head, u₂, v₂, spelled, (c, u₃, v₃, maybe, (ps, u₄, v₄, many, (k, close, same), cut₄), cut₃), cut₂), cut₁) = sym (ap is_operation same)
+
+no_operation : false ≡ true → ⊥
+no_operation e = cc
+
+node_form : (p : Pattern) (w : List Symbol) → is_operation p ≡ true → Form p w → Then (Meant (meanings.mark marks.Open)) Opened p w
+node_form p w is (captured c, u, v, meant, (same, empty), cut) = absurd (no_operation (sym (ap is_operation same) ∙ is))
+node_form p w is (named at, u, v, meant, (c, maybe, same), cut) = absurd (no_operation (ap is_operation same ∙ is))
+node_form p w is (opened at, u, v, (t, has, one), inside, cut) = (at, u, v, (t, start_opened t at has, one), inside, cut)
+
+pub node_reads : Reads Node IsJoined node_at
+node_reads =
+    in_words (Then (Meant (meanings.mark marks.Open)) Opened) Node IsJoined node_at to back
+    (after_token (meanings.mark marks.Open) Syntax (some_mark marks.Open) Opened IsJoined (λ left. operation_at (patterns_at (length left.1 + 1)) left.0 left.1) operation_reads)
+  where
+    to : (p : Pattern) (w : List Symbol) → Then (Meant (meanings.mark marks.Open)) Opened p w → Node p w
+    to p w (at, u, v, (t, is, one), inside, cut) = (opened_is at p v inside, to_pattern p w (opened at, u, v, (t, opened_start t at is, one), inside, cut))
+
+    back : (p : Pattern) (w : List Symbol) → Node p w → Then (Meant (meanings.mark marks.Open)) Opened p w
+    back p w (is, spelled) = node_form p w is (of_pattern p w spelled)

@@ -1,5 +1,5 @@
 -- Tails are read exactly, at every input.
-use Rattle.std.proofs.Common.{◌≡◌, ℕ, suc, ◌+◌, ◌<◌, List, [], ◌∷◌, length, Some, Ok, refl, sym, subst, inl, inr, arith}
+use Rattle.std.proofs.Common.{◌≡◌, ℕ, suc, ◌+◌, ◌<◌, List, [], ◌∷◌, ◌++◌, length, Some, Ok, refl, sym, ap, subst, ◌∙◌, ◌⊎◌, inl, inr, arith}
 use Rattle.grammar.specs.Spelling.{Spelling, Begins, Meant, Then, Mapped}
 use Rattle.grammar.specs.Reading.{◌>>=◌, meant_at}
 use Rattle.grammar.specs.Exact.{IsExact}
@@ -7,7 +7,7 @@ use Rattle.grammar.proofs.Parts as parts
 use Rattle.grammar.proofs.Sequence.{Never, token_then}
 use Rattle.grammar.proofs.Recursion.{by_length}
 use Rattle.grammar.proofs.EveryInput.{Reads, one_token, seen_by}
-use Rattle.grammar.proofs.Starts.{Begun, meant_begun, front_begun, Optional, taken, left_out}
+use Rattle.grammar.proofs.Starts.{Begun, meant_begun, front_begun, widen_begun, Optional, taken, left_out}
 use Rattle.pm_ops.specs.declared.fault.PatternKind.TheVariants.{Syntax}
 use Rattle.pm_places.specs.declared.span.Span.{Span}
 use Rattle.pd_text.specs.declared.symbol.Symbol.{Symbol}
@@ -19,6 +19,7 @@ use Rattle.cond_subset.proofs.SymbolsExact.{somewhere, some_mark}
 use Rattle.pd_forms.specs.SymbolReaders.{mark_at}
 use Rattle.pd_forms.specs.PartReaders.{condition_at, declarations_at}
 use Rattle.pd_forms.specs.ResultGrammar.{SpellsCondition, SpellsDeclarations}
+use Rattle.pd_forms.specs.Grammar.{IsJoined}
 use Rattle.pd_forms.specs.Tails.{Tail, empty, when, bound, SpellsTail, IsOpen}
 use Rattle.pd_forms.specs.TailReaders.{Inner, Opening, conditional, with_block, opening, close_if_at, close_with_at, after_opening, tail_at, tails_at, whole_tail_at}
 use Rattle.pd_forms.proofs.BoundedReading as bounded
@@ -41,13 +42,33 @@ Opened = Then (Meant (meanings.mark marks.Open)) (λ at. Then (Meant opening) Af
 to_close_begun : (r x : Tail) (w : List Symbol) → ToClose r x w → Begun IsClose w
 to_close_begun r x w (k, meant, same) = meant_begun (meanings.mark marks.Close) IsClose close_is k w meant
 
-close_not_open : (t : Symbol) → IsClose t → ¬ IsOpen t
+pub close_not_open : (t : Symbol) → IsClose t → ¬ IsOpen t
 close_not_open (symbols.Mark marks.Close at) is = λ h. h
 close_not_open t is = absurd is
 
 open_is : (t : Symbol) (at : Span) → meanings.mark marks.Open t ≡ Some at → IsOpen t
 open_is (symbols.Mark marks.Open p) at e = tt
 open_is t at e = absurd (cc)
+
+-- a tail and a `)`
+
+abbrev pub IsOpenOrClose : Symbol → Type 0
+IsOpenOrClose t = IsOpen t ⊎ IsClose t
+
+pub tail_not_joined : (t : Symbol) → IsOpenOrClose t → ¬ IsJoined t
+tail_not_joined (symbols.Mark m at) is = λ has. absurd (cc)
+tail_not_joined t (inl is) = absurd is
+tail_not_joined t (inr is) = absurd is
+
+open_begun : (at : Span) (u v a b w : List Symbol) → Meant (meanings.mark marks.Open) at a → u ≡ a ++ b → w ≡ u ++ v → Begun IsOpenOrClose w
+open_begun at u v a b w left inside cut =
+    front_begun IsOpenOrClose u v w (front_begun IsOpenOrClose a b u (meant_begun (meanings.mark marks.Open) IsOpenOrClose (λ t p e. inl (open_is t p e)) at a left) inside) cut
+
+pub tail_begun : (t : Tail) (u v w : List Symbol) → SpellsTail t u → Begun IsClose v → w ≡ u ++ v → Begun IsOpenOrClose w
+tail_begun empty u v w none begun cut =
+    subst (λ l. Begun IsOpenOrClose l) (sym (cut ∙ ap (λ l. l ++ v) none)) (widen_begun IsClose IsOpenOrClose (λ t is. inr is) v begun)
+tail_begun (when c t) u v w (a, b, (at, left), others, inside) begun cut = open_begun at u v a b w left inside cut
+tail_begun (bound ds t) u v w (a, b, (at, left), others, inside) begun cut = open_begun at u v a b w left inside cut
 
 opened_begun : (x : Tail) (w : List Symbol) → Opened x w → Begun IsOpen w
 opened_begun x w (at, u, v, left, rest, cut) = front_begun IsOpen u v w (meant_begun (meanings.mark marks.Open) IsOpen open_is at u left) cut

@@ -11,3 +11,6 @@ pub mod ResultGrammar
 pub mod ResultReaders
 pub mod Tails
 pub mod TailReaders
+pub mod Forms
+pub mod FormReaders
+pub mod Files

@@ -6,7 +6,10 @@
 
 mod c_parts;
 mod depth;
+mod file;
+mod form;
 mod leaf;
+mod list;
 mod pattern;
 mod result;
 mod tail;
@@ -14,6 +17,7 @@ mod tokens;
 mod tree;
 
 pub use depth::check_depth;
+pub use file::read_file;
 pub use leaf::read_leaf;
 pub use pattern::read_pattern;
 pub use result::read_result;

@@ -54,7 +54,7 @@ fn read_operands(
 
 /// An operation after its `(`.
 #[cycle(pattern)]
-fn read_operation(
+pub(crate) fn read_operation(
     alloc: Global,
     room: usize,
     open: Span,
