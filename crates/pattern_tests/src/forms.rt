@@ -2,9 +2,9 @@
 
 use grammar::Stop;
 use pd_forms::{FormText, check_depth, read_file, read_leaf, read_pattern, read_result, read_tail};
-use pm_items::Items;
 use pd_lexer::lex;
 use pd_text::{Symbol, SymbolFault, meanings};
+use pm_items::Items;
 use pm_ops::{PatternFault, PatternKind};
 use std::alloc::Global;
 use std::test::Fail;
