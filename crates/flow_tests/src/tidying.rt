@@ -1,4 +1,6 @@
-//! Small functions, tidied.
+//! Small functions, tidied, and a long one.
+ghost use Rattle.std.specs.Prelude.{◌<◌};
+
 use cfg_tidy::{Change, Tidied, tidy};
 use gim_ast::{Block, End, Function, NameRow, Phi};
 use pm_items::Items;
@@ -257,5 +259,67 @@ fn what_is_reached_stays(rt: HostRuntime) -> Result<(), OutOfMemory> {
     assert!(rt; were_made(&tidied, &[]));
     assert!(rt; has_ends(&tidied.function, &ends));
     assert_eq!(rt; count_phis(&tidied.function), (2, 4));
+    Ok(())
+}
+
+/// A block that returns 7.
+fn last(alloc: Global, number: u32) -> Block {
+    Block {
+        number,
+        phis: Items::new(alloc),
+        stmts: Items::new(alloc),
+        end: End::Return(c(7)),
+    }
+}
+
+/// A block of a chain: its phi reads the one before it, and its `if` always leads to the block after it.
+fn link(alloc: Global, number: u32) -> Result<Block, OutOfMemory>
+    requires positive { 0 < number }
+    requires small { number < 1000 }
+{
+    let mut phis = Items::new(alloc);
+    phis.push(phi(alloc, number, &[(number - 1, x(number - 1))])?)?;
+    Ok(Block {
+        number,
+        phis,
+        stmts: Items::new(alloc),
+        end: unequal(c(1), c(0), number + 1, number + 10000),
+    })
+}
+
+/// 2,000 blocks: a chain, and the blocks that it never comes to.
+fn chain(alloc: Global) -> Result<Function, OutOfMemory> {
+    let mut chain = function(alloc, &[(0, End::Goto(1))])?;
+    for number in 1..1000 {
+        chain.blocks.push(link(alloc, number)?)?;
+    }
+    chain.blocks.push(last(alloc, 1000))?;
+    for number in 10001..11000 {
+        chain.blocks.push(last(alloc, number))?;
+    }
+    Ok(chain)
+}
+
+/// In a long chain each branch is known, each block that it leaves goes, and then each phi in turn.
+#[test]
+fn a_long_chain_falls(rt: HostRuntime) -> Result<(), OutOfMemory> {
+    let alloc = rt.alloc();
+    let tidied = tidy(alloc, chain(alloc)?)?;
+    assert_eq!(rt; tidied.changes.len(), 2997);
+    assert_eq!(rt; tidied.function.blocks.len(), 1001);
+    assert_eq!(rt; count_phis(&tidied.function), (0, 0));
+    Ok(())
+}
+
+/// A block that only leads to itself is reached, and its phi that reads itself and the entry's operand goes.
+#[test]
+fn a_loop_of_one_block_stays(rt: HostRuntime) -> Result<(), OutOfMemory> {
+    let alloc = rt.alloc();
+    let ends = [(2, End::Goto(3)), (3, unequal(x(5), c(0), 3, 3))];
+    let phi = phi(alloc, 5, &[(2, x(1)), (3, x(5))])?;
+    let tidied = tidy(alloc, with_phi(function(alloc, &ends)?, 1, phi)?)?;
+    assert!(rt; were_made(&tidied, &[Change::Branch(3), Change::Phi(5)]));
+    assert!(rt; has_ends(&tidied.function, &[(2, End::Goto(3)), (3, End::Goto(3))]));
+    assert_eq!(rt; count_phis(&tidied.function), (0, 0));
     Ok(())
 }
