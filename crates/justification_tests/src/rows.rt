@@ -33,7 +33,7 @@ impl At {
 pub(crate) type Row = (At, &'static str, &'static str, Option<Method>);
 
 /// Sums: with a sign the order of adding matters, since a part may overflow.
-pub(crate) const SUMS: [Row; 23] = [
+pub(crate) const SUMS: [Row; 24] = [
     // the same
     (Int, "xy+", "xy+", Some(Ring)),
     // y + x is x + y over whole numbers
@@ -68,6 +68,8 @@ pub(crate) const SUMS: [Row; 23] = [
     (Int, "B", "B1-1+", Some(Ring)),
     // the same word, but the sum overflows
     (Int, "S", "B1+", None),
+    // the number of the sum stands on the left, but at another type
+    (Int, "SOI0*+", "B1+", None),
     // twice x either way
     (Int, "x2*", "xx+", Some(Ring)),
     // products are multiplied out
@@ -151,7 +153,7 @@ pub(crate) const COMPARED_SUMS: [Row; 32] = [
 ];
 
 /// Products halved, and other quotients.
-pub(crate) const HALVES: [Row; 23] = [
+pub(crate) const HALVES: [Row; 24] = [
     // no method divides at 32 bits
     (Int, "x2*2/", "x", None),
     // the product wraps
@@ -172,6 +174,8 @@ pub(crate) const HALVES: [Row; 23] = [
     (Int, "xy+z/", "yx+z/", Some(Ring)),
     // x + 0 is x
     (Int, "xy/", "x0+y/", Some(Ring)),
+    // a part of the left side divides by y
+    (UnsignedInt, "xy/1+", "1xy/+", Some(Ring)),
     // one may divide by 3, whatever the left side is
     (Int, "0", "x3/0*", Some(Ring)),
     // but not by 0

@@ -89,20 +89,21 @@ fn type_of_result(letter: u8, code: Code, of: IntType, ty: IntType) -> IntType {
 
 /// A name, of type `_Bool` from `p` to `t`; or a constant: a digit; `T` and `F`, which are truths; `M`,
 /// which has all bits, `S` the highest alone and `B` all others; `W`, the width, and `Y`, one less;
-/// `V`, which is 2 to the 56th, and `Z`, one less.
+/// `V`, which is 2 to the 56th, and `Z`, one less; and `O`, which is 2 to the 31st at `long`.
 fn leaf(letter: u8, ty: IntType) -> Typed {
-    let highest: u128 = 1 << (ty.bits() - 1);
+    let others = Wide::reduce(u128::MAX, ty).bits() / 2;
     match letter {
         b'0'..=b'9' => constant(u128::from(letter - b'0'), ty),
         b'T' => constant(1, IntType::boolean()),
         b'F' => constant(0, IntType::boolean()),
         b'M' => constant(u128::MAX, ty),
-        b'S' => constant(highest, ty),
-        b'B' => constant(highest - 1, ty),
+        b'S' => constant(others + 1, ty),
+        b'B' => constant(others, ty),
         b'W' => constant(u128::from(ty.bits()), ty),
-        b'Y' => constant(u128::from(ty.bits() - 1), ty),
+        b'Y' => constant(u128::from(ty.bits()).saturating_sub(1), ty),
         b'V' => constant(1 << 56, ty),
         b'Z' => constant((1 << 56) - 1, ty),
+        b'O' => constant(1 << 31, IntType::long()),
         b'p'..=b't' => Typed::leaf(Operand::Name(u32::from(letter), IntType::boolean())),
         _ => Typed::leaf(Operand::Name(u32::from(letter), ty)),
     }
