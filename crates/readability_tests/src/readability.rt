@@ -6,6 +6,7 @@ ghost use Rattle.gim_ast.specs.WellFormed.{IsWellFormed};
 use gim_ast::Function;
 use gim_reader::read;
 use gim_ssa::{CheckFault, Reach, Reading, check};
+use pm_ops::OutOfMemory;
 use std::alloc::Global;
 use std::test::Fail;
 
@@ -249,8 +250,26 @@ fn faults_are_told(rt: HostRuntime) -> Result<(), Fail> {
     Ok(())
 }
 
-/// Whether a name of the function of these blocks is readable just before an item, as the tables of
-/// all names say and as those of one name do. Nothing, if these differ or there are more functions.
+/// Whether a name is readable just before an item, as the tables of all names say and as those of
+/// one name do. Nothing, if these differ.
+fn told_twice(
+    alloc: Global,
+    function: &Function,
+    name: u32,
+    block: u32,
+    item: u32,
+) -> Result<Option<bool>, OutOfMemory>
+    requires { IsWellFormed function.now }
+{
+    let reach = Reach::build(alloc, function)?;
+    let by_all = reach.readable(name, block, item);
+    let mut reading = Reading::new(alloc, function)?;
+    let by_one = reading.readable(name, block, (item as usize).saturating_sub(1))?;
+    Ok((by_all == by_one).then_some(by_all))
+}
+
+/// Whether a name of the function of these blocks is readable just before an item. Nothing, if it
+/// isn't told alike twice, or there are more functions.
 fn is_readable(
     alloc: Global,
     blocks: &str,
@@ -260,12 +279,7 @@ fn is_readable(
 ) -> Result<Option<bool>, Fail> {
     let functions = functions(alloc, blocks)?;
     match functions.as_slice() {
-        [function] => {
-            let by_all = Reach::build(alloc, function)?.readable(name, block, item);
-            let mut reading = Reading::new(alloc, function)?;
-            let by_one = reading.readable(name, block, (item as usize).saturating_sub(1))?;
-            Ok((by_all == by_one).then_some(by_all))
-        }
+        [function] => Ok(told_twice(alloc, function, name, block, item)?),
         _ => Ok(None),
     }
 }
