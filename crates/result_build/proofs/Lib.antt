@@ -1,0 +1,3 @@
+pub mod Folding
+pub mod Operands
+pub mod TypedLemmas

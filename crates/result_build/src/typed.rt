@@ -1,0 +1,145 @@
+//! The term of a draft.
+ghost use Rattle.std.specs.Prelude.{◌≡◌, IfOk};
+ghost use Rattle.pm_wide.specs.Types.{same_type};
+ghost use Rattle.result_types.specs.Drafts.{shape_of};
+ghost use Rattle.result_build.specs.TypedResults.{asked, is_dropped as is_dropped_one, operation};
+ghost use Rattle.result_build.specs.TypedResults.{on_one, on_three, on_two, typed as typed_in};
+
+use pm_items::Items;
+use pm_ops::{Code, OutOfMemory};
+use pm_term::{BuildFault, Typed};
+use pm_wide::IntType;
+use result_types::{Draft, Head, asked_types, own_type, type_where};
+use std::alloc::Global;
+
+/// The term of a draft for which a type may be asked, or nothing.
+#[tactic(auto, using(crate::proofs::TypedLemmas::one_untyped, crate::proofs::TypedLemmas::one_dropped, crate::proofs::TypedLemmas::one_kept, crate::proofs::TypedLemmas::two_untyped, crate::proofs::TypedLemmas::two_typed, crate::proofs::TypedLemmas::three_untyped, crate::proofs::TypedLemmas::three_typed))]
+pub(crate) fn typed(
+    alloc: Global,
+    draft: &Draft,
+    type_asked: Option<IntType>,
+) -> Result<Option<Typed>, OutOfMemory>
+    ensures { IfOk result (λ made. made ≡ typed_in type_asked (shape_of draft.now)) }
+{
+    let ty = type_where(draft, type_asked);
+    match draft {
+        Draft::Leaf(operand) => Ok(Some(Typed::leaf(*operand))),
+        Draft::One(head, a) => {
+            let Some(ty) = ty else { return Ok(None) };
+            let own = own_type(a.get());
+            if is_dropped(head.code, ty, own) {
+                return typed(alloc, a.get(), None);
+            }
+            let a = typed(alloc, a.get(), asks(*head, ty, own, None).0)?;
+            with_one(alloc, *head, ty, a)
+        }
+        Draft::Two(head, a, b) => {
+            let Some(ty) = ty else { return Ok(None) };
+            let asked = asks(*head, ty, own_type(a.get()), own_type(b.get()));
+            let a = typed(alloc, a.get(), asked.0)?;
+            let b = typed(alloc, b.get(), asked.1)?;
+            with_two(alloc, *head, ty, a, b)
+        }
+        Draft::Three(head, a, b, c) => {
+            let Some(ty) = ty else { return Ok(None) };
+            let asked = asks(*head, ty, own_type(a.get()), own_type(b.get()));
+            let a = typed(alloc, a.get(), asked.0)?;
+            let b = typed(alloc, b.get(), asked.1)?;
+            let c = typed(alloc, c.get(), asked.2)?;
+            with_three(alloc, *head, ty, a, b, c)
+        }
+    }
+}
+
+/// Whether a conversion is one to the type that its operand has of its own.
+pub(crate) fn is_dropped(code: Code, ty: IntType, own: Option<IntType>) -> bool
+    ensures { result ≡ is_dropped_one code ty own }
+{
+    match own {
+        Some(own) => code.same(Code::Convert) && is_same(own, ty),
+        None => false,
+    }
+}
+
+/// Whether two types are one.
+pub(crate) fn is_same(a: IntType, b: IntType) -> bool
+    ensures { result ≡ same_type a b }
+{
+    a.bits() == b.bits() && a.unsigned() == b.unsigned()
+}
+
+/// What an operation of a type asks of its operands.
+pub(crate) fn asks(
+    head: Head,
+    ty: IntType,
+    a: Option<IntType>,
+    b: Option<IntType>,
+) -> (Option<IntType>, Option<IntType>, Option<IntType>)
+    ensures { result ≡ asked head ty a b }
+{
+    asked_types(head.code, ty, a, b)
+}
+
+/// An operation on one term that is there, where it is well typed.
+fn with_one(
+    alloc: Global,
+    head: Head,
+    ty: IntType,
+    a: Option<Typed>,
+) -> Result<Option<Typed>, OutOfMemory>
+    ensures { IfOk result (λ made. made ≡ on_one head ty a) }
+{
+    let Some(a) = a else { return Ok(None) };
+    let args = Items::from_vec(vec![in alloc; a]?);
+    operation_on(alloc, head.code, ty, args)
+}
+
+/// On two terms.
+fn with_two(
+    alloc: Global,
+    head: Head,
+    ty: IntType,
+    a: Option<Typed>,
+    b: Option<Typed>,
+) -> Result<Option<Typed>, OutOfMemory>
+    ensures { IfOk result (λ made. made ≡ on_two head ty a b) }
+{
+    let Some(a) = a else { return Ok(None) };
+    let Some(b) = b else { return Ok(None) };
+    let args = Items::from_vec(vec![in alloc; a, b]?);
+    operation_on(alloc, head.code, ty, args)
+}
+
+/// On three terms.
+fn with_three(
+    alloc: Global,
+    head: Head,
+    ty: IntType,
+    a: Option<Typed>,
+    b: Option<Typed>,
+    c: Option<Typed>,
+) -> Result<Option<Typed>, OutOfMemory>
+    ensures { IfOk result (λ made. made ≡ on_three head ty a b c) }
+{
+    let Some(a) = a else { return Ok(None) };
+    let Some(b) = b else { return Ok(None) };
+    let Some(c) = c else { return Ok(None) };
+    let args = Items::from_vec(vec![in alloc; a, b, c]?);
+    operation_on(alloc, head.code, ty, args)
+}
+
+/// An operation on these terms, where it is well typed.
+fn operation_on(
+    alloc: Global,
+    code: Code,
+    ty: IntType,
+    args: Items<Typed>,
+) -> Result<Option<Typed>, OutOfMemory>
+    ensures { IfOk result (λ made. made ≡ operation code ty args) }
+{
+    match Typed::build(alloc, code, ty, args) {
+        Ok(term) => Ok(Some(term)),
+        Err(BuildFault::IllTyped) => Ok(None),
+        Err(BuildFault::Memory) => Err(OutOfMemory),
+    }
+}

@@ -1,0 +1,4 @@
+pub mod Drafts
+pub mod IntegerTypes
+pub mod OwnTypes
+pub mod TypeRules
