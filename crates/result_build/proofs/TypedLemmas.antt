@@ -12,10 +12,10 @@ use Rattle.result_build.specs.TypedResults.{asked, is_dropped, typed, on_one, on
 
 -- ---- one operand
 
-abbrev one_term : Head → Shape → Ty → Option Tree
+abbrev pub one_term : Head → Shape → Ty → Option Tree
 one_term head a t = on_one head t (typed (asked head t (own a) None).0 a)
 
-abbrev one_of : Head → Shape → Ty → Option Tree
+abbrev pub one_of : Head → Shape → Ty → Option Tree
 one_of head a t = cond (is_dropped head.code t (own a)) (typed None a) (one_term head a t)
 
 pub one_untyped : (wanted : Option Ty) (head : Head) (a : Shape) → type_in wanted (one head a) ≡ None
@@ -34,7 +34,7 @@ one_kept wanted head a t has kept =
 
 -- ---- two and three operands
 
-abbrev two_of : Head → Shape → Shape → Ty → Option Tree
+abbrev pub two_of : Head → Shape → Shape → Ty → Option Tree
 two_of head a b t =
     on_two head t (typed (asked head t (own a) (own b)).0 a) (typed (asked head t (own a) (own b)).1 b)
 
@@ -46,7 +46,7 @@ pub two_typed : (wanted : Option Ty) (head : Head) (a b : Shape) (t : Ty) → ty
     → typed wanted (two head a b) ≡ two_of head a b t
 two_typed wanted head a b t has = ap (option_and_then (two_of head a b)) has
 
-abbrev three_of : Head → Shape → Shape → Shape → Ty → Option Tree
+abbrev pub three_of : Head → Shape → Shape → Shape → Ty → Option Tree
 three_of head a b c t =
     on_three head t (typed (asked head t (own a) (own b)).0 a) (typed (asked head t (own a) (own b)).1 b)
     (typed (asked head t (own a) (own b)).2 c)
@@ -61,10 +61,10 @@ three_typed wanted head a b c t has = ap (option_and_then (three_of head a b c))
 
 -- ---- marks
 
-abbrev one_marks : Place → Head → Shape → Ty → List Place
+abbrev pub one_marks : Place → Head → Shape → Ty → List Place
 one_marks at head a t = mark head at ++ marks (asked head t (own a) None).0 (below at 0) a
 
-abbrev marks_of_one : Place → Head → Shape → Ty → List Place
+abbrev pub marks_of_one : Place → Head → Shape → Ty → List Place
 marks_of_one at head a t = cond (is_dropped head.code t (own a)) (marks None at a) (one_marks at head a t)
 
 pub one_unmarked : (wanted : Option Ty) (at : Place) (head : Head) (a : Shape) → type_in wanted (one head a) ≡ None
@@ -81,7 +81,7 @@ pub one_kept_marks : (wanted : Option Ty) (at : Place) (head : Head) (a : Shape)
 one_kept_marks wanted at head a t has kept =
     ap (under_type (marks_of_one at head a)) has ∙ ap (λ b. cond b (marks None at a) (one_marks at head a t)) kept
 
-abbrev marks_of_two : Place → Head → Shape → Shape → Ty → List Place
+abbrev pub marks_of_two : Place → Head → Shape → Shape → Ty → List Place
 marks_of_two at head a b t =
     (mark head at ++ marks (asked head t (own a) (own b)).0 (below at 0) a)
     ++ marks (asked head t (own a) (own b)).1 (below at 1) b
@@ -94,7 +94,7 @@ pub two_marks : (wanted : Option Ty) (at : Place) (head : Head) (a b : Shape) (t
     → marks wanted at (two head a b) ≡ marks_of_two at head a b t
 two_marks wanted at head a b t has = ap (under_type (marks_of_two at head a b)) has
 
-abbrev marks_of_three : Place → Head → Shape → Shape → Shape → Ty → List Place
+abbrev pub marks_of_three : Place → Head → Shape → Shape → Shape → Ty → List Place
 marks_of_three at head a b c t =
     ((mark head at ++ marks (asked head t (own a) (own b)).0 (below at 0) a)
     ++ marks (asked head t (own a) (own b)).1 (below at 1) b)

@@ -100,10 +100,10 @@ case_step case = (case.when, case.gives)
 
 -- ---- what results give
 
-abbrev pub given : Caps → Out → Gives
+abbrev pub given : Caps → Out → CEnv → Option Shape
 given caps = fold-Out Gives Gives (CExpr × Gives) (out_step caps) node_step case_step
 
-abbrev pub given_by_node : Caps → OutNode → Gives
+abbrev pub given_by_node : Caps → OutNode → CEnv → Option Shape
 given_by_node caps = fold-OutNode Gives Gives (CExpr × Gives) (out_step caps) node_step case_step
 
 abbrev pub given_by_case : Caps → SwitchCase → CExpr × Gives

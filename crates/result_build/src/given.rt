@@ -21,7 +21,7 @@ use std::alloc::Global;
 
 /// What a result gives in an environment, or nothing.
 #[cycle(given)]
-pub(crate) fn draft(
+pub(crate) fn draft_of_result(
     alloc: Global,
     out: &Out,
     caps: &Caps,
@@ -35,7 +35,7 @@ pub(crate) fn draft(
         Out::Brace(expr) => Ok(as_leaf(operand_in(&eval(expr, env)))),
         Out::Node(node) => draft_of_node(alloc, node, caps, env),
         Out::If(when, gives, otherwise) => match as_truth(&eval(when, env)) {
-            Some(true) => draft(alloc, gives.get(), caps, env),
+            Some(true) => draft_of_result(alloc, gives.get(), caps, env),
             Some(false) => draft_if_there(alloc, otherwise, caps, env),
             None => Ok(None),
         },
@@ -44,7 +44,7 @@ pub(crate) fn draft(
             None => draft_if_there(alloc, otherwise, caps, env),
         },
         Out::With(decls, gives) => match declare(alloc, decls.as_slice(), env.copy(alloc)?)? {
-            Some(after) => draft(alloc, gives.get(), caps, &after),
+            Some(after) => draft_of_result(alloc, gives.get(), caps, &after),
             None => Ok(None),
         },
     }
@@ -84,18 +84,18 @@ fn draft_of_operands(
     match operands {
         [] => Ok(None),
         [a] => {
-            let a = draft(alloc, a.get(), caps, env)?;
+            let a = draft_of_result(alloc, a.get(), caps, env)?;
             with_one(alloc, head, a)
         }
         [a, b] => {
-            let a = draft(alloc, a.get(), caps, env)?;
-            let b = draft(alloc, b.get(), caps, env)?;
+            let a = draft_of_result(alloc, a.get(), caps, env)?;
+            let b = draft_of_result(alloc, b.get(), caps, env)?;
             with_two(alloc, head, a, b)
         }
         [a, b, c] => {
-            let a = draft(alloc, a.get(), caps, env)?;
-            let b = draft(alloc, b.get(), caps, env)?;
-            let c = draft(alloc, c.get(), caps, env)?;
+            let a = draft_of_result(alloc, a.get(), caps, env)?;
+            let b = draft_of_result(alloc, b.get(), caps, env)?;
+            let c = draft_of_result(alloc, c.get(), caps, env)?;
             with_three(alloc, head, a, b, c)
         }
         [_, _, _, _, ..] => Ok(None),
@@ -116,7 +116,7 @@ fn draft_of_cases(
 {
     for case in cases {
         match as_truth(&eval(&case.when, env)) {
-            Some(true) => return Ok(Some(draft(alloc, case.gives.get(), caps, env)?)),
+            Some(true) => return Ok(Some(draft_of_result(alloc, case.gives.get(), caps, env)?)),
             Some(false) => {}
             None => return Ok(Some(None)),
         }
@@ -137,7 +137,7 @@ fn draft_if_there(
         optional_in env.now (option_map (given caps.now) out.now)) }
 {
     match out {
-        Some(out) => draft(alloc, out.get(), caps, env),
+        Some(out) => draft_of_result(alloc, out.get(), caps, env),
         None => Ok(None),
     }
 }

@@ -6,6 +6,7 @@
 
 mod canon;
 mod given;
+pub mod laws;
 mod marks;
 mod names;
 mod outermost;

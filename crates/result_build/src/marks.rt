@@ -32,9 +32,10 @@ pub(crate) fn list_marks(
             if is_dropped(head.code, ty, own) {
                 return list_marks(alloc, a.get(), None, at, marks);
             }
+            let asked = asks(*head, ty, own, None);
             push_mark(alloc, *head, at, marks)?;
             let first = at.below(alloc, 0)?;
-            list_marks(alloc, a.get(), asks(*head, ty, own, None).0, &first, marks)
+            list_marks(alloc, a.get(), asked.0, &first, marks)
         }
         Draft::Two(head, a, b) => {
             let Some(ty) = ty else { return Ok(()) };

@@ -6,10 +6,10 @@ ghost use Rattle.result_types.specs.Drafts.{shape_of};
 ghost use Rattle.result_build.specs.RawResults.{body_of, operand_in, raw_of, raw_of_typed};
 ghost use Rattle.result_build.specs.RawResults.{raw_result};
 
-use crate::given::draft;
+use crate::given::draft_of_result;
 use crate::marks::list_marks;
 use crate::outermost::outermost;
-use crate::typed::typed;
+use crate::typed::term_of;
 use cond_eval::CEnv;
 use either::{Either, Left, Right};
 use pattern_rows::{Caps, Place};
@@ -55,7 +55,7 @@ pub fn build_raw(alloc: Global, row: &Row, caps: &Caps, env: &CEnv) -> Result<Ra
     match result_of(alloc, row.result.get(), caps, env) {
         Ok(Some(raw)) => Ok(raw),
         Ok(None) => Err(RawFault::NoResult),
-        Err(OutOfMemory) => Err(RawFault::Memory),
+        Err(_) => Err(RawFault::Memory),
     }
 }
 
@@ -71,7 +71,7 @@ fn result_of(alloc: Global, out: &Out, caps: &Caps, env: &CEnv) -> Result<Option
     requires { AreValues env.now.locals }
     ensures { IfOk result (λ made. made ≡ raw_result out.now caps.now env.now) }
 {
-    match draft(alloc, out, caps, env)? {
+    match draft_of_result(alloc, out, caps, env)? {
         Some(draft) => raw_of_draft(alloc, draft, env.ty),
         None => Ok(None),
     }
@@ -91,7 +91,7 @@ fn raw_of_draft(alloc: Global, draft: Draft, ty: IntType) -> Result<Option<Raw>,
 fn raw_of_outermost(alloc: Global, draft: &Draft) -> Result<Option<Raw>, OutOfMemory>
     ensures { IfOk result (λ made. made ≡ raw_of_typed (shape_of draft.now)) }
 {
-    let Some(term) = typed(alloc, draft, None)? else {
+    let Some(term) = term_of(alloc, draft, None)? else {
         return Ok(None);
     };
     let outermost = Place {

@@ -14,7 +14,7 @@ use std::alloc::Global;
 
 /// The term of a draft for which a type may be asked, or nothing.
 #[tactic(auto, using(crate::proofs::TypedLemmas::one_untyped, crate::proofs::TypedLemmas::one_dropped, crate::proofs::TypedLemmas::one_kept, crate::proofs::TypedLemmas::two_untyped, crate::proofs::TypedLemmas::two_typed, crate::proofs::TypedLemmas::three_untyped, crate::proofs::TypedLemmas::three_typed))]
-pub(crate) fn typed(
+pub(crate) fn term_of(
     alloc: Global,
     draft: &Draft,
     type_asked: Option<IntType>,
@@ -28,24 +28,25 @@ pub(crate) fn typed(
             let Some(ty) = ty else { return Ok(None) };
             let own = own_type(a.get());
             if is_dropped(head.code, ty, own) {
-                return typed(alloc, a.get(), None);
+                return term_of(alloc, a.get(), None);
             }
-            let a = typed(alloc, a.get(), asks(*head, ty, own, None).0)?;
+            let asked = asks(*head, ty, own, None);
+            let a = term_of(alloc, a.get(), asked.0)?;
             with_one(alloc, *head, ty, a)
         }
         Draft::Two(head, a, b) => {
             let Some(ty) = ty else { return Ok(None) };
             let asked = asks(*head, ty, own_type(a.get()), own_type(b.get()));
-            let a = typed(alloc, a.get(), asked.0)?;
-            let b = typed(alloc, b.get(), asked.1)?;
+            let a = term_of(alloc, a.get(), asked.0)?;
+            let b = term_of(alloc, b.get(), asked.1)?;
             with_two(alloc, *head, ty, a, b)
         }
         Draft::Three(head, a, b, c) => {
             let Some(ty) = ty else { return Ok(None) };
             let asked = asks(*head, ty, own_type(a.get()), own_type(b.get()));
-            let a = typed(alloc, a.get(), asked.0)?;
-            let b = typed(alloc, b.get(), asked.1)?;
-            let c = typed(alloc, c.get(), asked.2)?;
+            let a = term_of(alloc, a.get(), asked.0)?;
+            let b = term_of(alloc, b.get(), asked.1)?;
+            let c = term_of(alloc, c.get(), asked.2)?;
             with_three(alloc, *head, ty, a, b, c)
         }
     }
