@@ -23,20 +23,20 @@ made_type code u args t made =
     elim (well_typed_operation code u (map type_of args)) as (λ b. cond b (Some (node code u (trees args))) None ≡ Some t → type_of t ≡ u)
     [ true ↦ λ e. sym (ap type_of (same_Some (node code u (trees args)) t e)) | false ↦ λ e. absurd (none-some t e) ] made
 
-on_one_type : (head : Head) (u : Ty) (a : Option Tree) (t : Tree) → on_one head u a ≡ Some t → type_of t ≡ u
-on_one_type head u None t made = absurd (none-some t made)
-on_one_type head u (Some x) t made = made_type head.code u (x ∷ []) t made
+on_one_type : (code : Code) (u : Ty) (a : Option Tree) (t : Tree) → on_one code u a ≡ Some t → type_of t ≡ u
+on_one_type code u None t made = absurd (none-some t made)
+on_one_type code u (Some x) t made = made_type code u (x ∷ []) t made
 
-on_two_type : (head : Head) (u : Ty) (a b : Option Tree) (t : Tree) → on_two head u a b ≡ Some t → type_of t ≡ u
-on_two_type head u None b t made = absurd (none-some t made)
-on_two_type head u (Some x) None t made = absurd (none-some t made)
-on_two_type head u (Some x) (Some y) t made = made_type head.code u (x ∷ y ∷ []) t made
+on_two_type : (code : Code) (u : Ty) (a b : Option Tree) (t : Tree) → on_two code u a b ≡ Some t → type_of t ≡ u
+on_two_type code u None b t made = absurd (none-some t made)
+on_two_type code u (Some x) None t made = absurd (none-some t made)
+on_two_type code u (Some x) (Some y) t made = made_type code u (x ∷ y ∷ []) t made
 
-on_three_type : (head : Head) (u : Ty) (a b c : Option Tree) (t : Tree) → on_three head u a b c ≡ Some t → type_of t ≡ u
-on_three_type head u None b c t made = absurd (none-some t made)
-on_three_type head u (Some x) None c t made = absurd (none-some t made)
-on_three_type head u (Some x) (Some y) None t made = absurd (none-some t made)
-on_three_type head u (Some x) (Some y) (Some z) t made = made_type head.code u (x ∷ y ∷ z ∷ []) t made
+on_three_type : (code : Code) (u : Ty) (a b c : Option Tree) (t : Tree) → on_three code u a b c ≡ Some t → type_of t ≡ u
+on_three_type code u None b c t made = absurd (none-some t made)
+on_three_type code u (Some x) None c t made = absurd (none-some t made)
+on_three_type code u (Some x) (Some y) None t made = absurd (none-some t made)
+on_three_type code u (Some x) (Some y) (Some z) t made = made_type code u (x ∷ y ∷ z ∷ []) t made
 
 -- what a dropped conversion converts has the conversion's type
 dropped_type : (code : Code) (u : Ty) (had : Option Ty) (v : Ty) → is_dropped code u had ≡ true → option_or had None ≡ Some v → v ≡ u
@@ -50,7 +50,7 @@ one_of_type head a u t below made = by (is_dropped head.code u (own a)) refl mad
   where
     by : (b : Bool) → is_dropped head.code u (own a) ≡ b → cond b (typed None a) (one_term head a u) ≡ Some t → type_of t ≡ u
     by true dropped e = dropped_type head.code u (own a) (type_of t) dropped (below t e)
-    by false kept e = on_one_type head u (typed (asked head u (own a) None).0 a) t e
+    by false kept e = on_one_type head.code u (typed (asked head.code u (own a) None).0 a) t e
 
 pub term_type : (wanted : Option Ty) (s : Shape) (t : Tree) → typed wanted s ≡ Some t → type_in wanted s ≡ Some (type_of t)
 term_type wanted (leaf (Name version ty)) t made = ap (λ (x : Tree). Some (type_of x)) (same_Some (operand_tree (Name version ty)) t made)
@@ -60,7 +60,7 @@ term_type wanted (one head a) t made =
     (λ u has e. has ∙ ap (λ (v : Ty). Some v) (sym (one_of_type head a u t (λ v f. term_type None a v f) e)))
 term_type wanted (two head a b) t made =
     option_and_then_some (two_of head a b) (type_in wanted (two head a b)) t made
-    (λ u has e. has ∙ ap (λ (v : Ty). Some v) (sym (on_two_type head u _ _ t e)))
+    (λ u has e. has ∙ ap (λ (v : Ty). Some v) (sym (on_two_type head.code u _ _ t e)))
 term_type wanted (three head a b c) t made =
     option_and_then_some (three_of head a b c) (type_in wanted (three head a b c)) t made
-    (λ u has e. has ∙ ap (λ (v : Ty). Some v) (sym (on_three_type head u _ _ _ t e)))
+    (λ u has e. has ∙ ap (λ (v : Ty). Some v) (sym (on_three_type head.code u _ _ _ t e)))

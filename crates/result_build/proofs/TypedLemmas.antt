@@ -13,7 +13,7 @@ use Rattle.result_build.specs.TypedResults.{asked, is_dropped, typed, on_one, on
 -- ---- one operand
 
 abbrev pub one_term : Head → Shape → Ty → Option Tree
-one_term head a t = on_one head t (typed (asked head t (own a) None).0 a)
+one_term head a t = on_one head.code t (typed (asked head.code t (own a) None).0 a)
 
 abbrev pub one_of : Head → Shape → Ty → Option Tree
 one_of head a t = cond (is_dropped head.code t (own a)) (typed None a) (one_term head a t)
@@ -36,7 +36,7 @@ one_kept wanted head a t has kept =
 
 abbrev pub two_of : Head → Shape → Shape → Ty → Option Tree
 two_of head a b t =
-    on_two head t (typed (asked head t (own a) (own b)).0 a) (typed (asked head t (own a) (own b)).1 b)
+    on_two head.code t (typed (asked head.code t (own a) (own b)).0 a) (typed (asked head.code t (own a) (own b)).1 b)
 
 pub two_untyped : (wanted : Option Ty) (head : Head) (a b : Shape) → type_in wanted (two head a b) ≡ None
     → typed wanted (two head a b) ≡ None
@@ -48,8 +48,8 @@ two_typed wanted head a b t has = ap (option_and_then (two_of head a b)) has
 
 abbrev pub three_of : Head → Shape → Shape → Shape → Ty → Option Tree
 three_of head a b c t =
-    on_three head t (typed (asked head t (own a) (own b)).0 a) (typed (asked head t (own a) (own b)).1 b)
-    (typed (asked head t (own a) (own b)).2 c)
+    on_three head.code t (typed (asked head.code t (own a) (own b)).0 a) (typed (asked head.code t (own a) (own b)).1 b)
+    (typed (asked head.code t (own a) (own b)).2 c)
 
 pub three_untyped : (wanted : Option Ty) (head : Head) (a b c : Shape) → type_in wanted (three head a b c) ≡ None
     → typed wanted (three head a b c) ≡ None
@@ -62,7 +62,7 @@ three_typed wanted head a b c t has = ap (option_and_then (three_of head a b c))
 -- ---- marks
 
 abbrev pub one_marks : Place → Head → Shape → Ty → List Place
-one_marks at head a t = mark head at ++ marks (asked head t (own a) None).0 (below at 0) a
+one_marks at head a t = mark head.must_fold at ++ marks (asked head.code t (own a) None).0 (below at 0) a
 
 abbrev pub marks_of_one : Place → Head → Shape → Ty → List Place
 marks_of_one at head a t = cond (is_dropped head.code t (own a)) (marks None at a) (one_marks at head a t)
@@ -83,8 +83,8 @@ one_kept_marks wanted at head a t has kept =
 
 abbrev pub marks_of_two : Place → Head → Shape → Shape → Ty → List Place
 marks_of_two at head a b t =
-    (mark head at ++ marks (asked head t (own a) (own b)).0 (below at 0) a)
-    ++ marks (asked head t (own a) (own b)).1 (below at 1) b
+    (mark head.must_fold at ++ marks (asked head.code t (own a) (own b)).0 (below at 0) a)
+    ++ marks (asked head.code t (own a) (own b)).1 (below at 1) b
 
 pub two_unmarked : (wanted : Option Ty) (at : Place) (head : Head) (a b : Shape) → type_in wanted (two head a b) ≡ None
     → marks wanted at (two head a b) ≡ []
@@ -96,9 +96,9 @@ two_marks wanted at head a b t has = ap (under_type (marks_of_two at head a b)) 
 
 abbrev pub marks_of_three : Place → Head → Shape → Shape → Shape → Ty → List Place
 marks_of_three at head a b c t =
-    ((mark head at ++ marks (asked head t (own a) (own b)).0 (below at 0) a)
-    ++ marks (asked head t (own a) (own b)).1 (below at 1) b)
-    ++ marks (asked head t (own a) (own b)).2 (below at 2) c
+    ((mark head.must_fold at ++ marks (asked head.code t (own a) (own b)).0 (below at 0) a)
+    ++ marks (asked head.code t (own a) (own b)).1 (below at 1) b)
+    ++ marks (asked head.code t (own a) (own b)).2 (below at 2) c
 
 pub three_unmarked : (wanted : Option Ty) (at : Place) (head : Head) (a b c : Shape) → type_in wanted (three head a b c) ≡ None
     → marks wanted at (three head a b c) ≡ []

@@ -22,8 +22,8 @@ is_dropped code t None = false
 is_dropped code t (Some u) = same_code code Convert && same_type u t
 
 -- what an operation of a type asks of its operands
-abbrev pub asked : Head → Ty → Option Ty → Option Ty → Option Ty × Option Ty × Option Ty
-asked head t a b = asked_by_code integer_types head.code t a b
+abbrev pub asked : Code → Ty → Option Ty → Option Ty → Option Ty × Option Ty × Option Ty
+asked code t a b = asked_by_code integer_types code t a b
 
 -- ---- the term
 
@@ -33,17 +33,17 @@ operation code t args =
     if well_typed_operation code t (map type_of args) then Some (node code t (trees args)) else None
 
 -- on one, two or three trees that are there
-abbrev pub on_one : Head → Ty → Option Tree → Option Tree
-on_one head t a = option_and_then (λ x. operation head.code t (x ∷ [])) a
+abbrev pub on_one : Code → Ty → Option Tree → Option Tree
+on_one code t a = option_and_then (λ x. operation code t (x ∷ [])) a
 
-abbrev pub on_two : Head → Ty → Option Tree → Option Tree → Option Tree
-on_two head t a b =
-    option_and_then (λ x. option_and_then (λ y. operation head.code t (x ∷ y ∷ [])) b) a
+abbrev pub on_two : Code → Ty → Option Tree → Option Tree → Option Tree
+on_two code t a b =
+    option_and_then (λ x. option_and_then (λ y. operation code t (x ∷ y ∷ [])) b) a
 
-abbrev pub on_three : Head → Ty → Option Tree → Option Tree → Option Tree → Option Tree
-on_three head t a b c =
+abbrev pub on_three : Code → Ty → Option Tree → Option Tree → Option Tree → Option Tree
+on_three code t a b c =
     option_and_then (λ x. option_and_then (λ y.
-    option_and_then (λ z. operation head.code t (x ∷ y ∷ z ∷ [])) c) b) a
+    option_and_then (λ z. operation code t (x ∷ y ∷ z ∷ [])) c) b) a
 
 -- The term of a draft for which a type may be asked: each operation has its own type, else the one that is
 -- asked for, and asks types of its operands. None where an operation has no type, or isn't well typed.
@@ -53,21 +53,21 @@ typed wanted (leaf a) = Some (operand_tree a)
 typed wanted (one head a) =
     option_and_then (λ t.
     if is_dropped head.code t (own a) then typed None a
-    else on_one head t (typed (asked head t (own a) None).0 a)) (type_in wanted (one head a))
+    else on_one head.code t (typed (asked head.code t (own a) None).0 a)) (type_in wanted (one head a))
 typed wanted (two head a b) =
     option_and_then (λ t.
-    on_two head t (typed (asked head t (own a) (own b)).0 a)
-    (typed (asked head t (own a) (own b)).1 b)) (type_in wanted (two head a b))
+    on_two head.code t (typed (asked head.code t (own a) (own b)).0 a)
+    (typed (asked head.code t (own a) (own b)).1 b)) (type_in wanted (two head a b))
 typed wanted (three head a b c) =
     option_and_then (λ t.
-    on_three head t (typed (asked head t (own a) (own b)).0 a)
-    (typed (asked head t (own a) (own b)).1 b)
-    (typed (asked head t (own a) (own b)).2 c)) (type_in wanted (three head a b c))
+    on_three head.code t (typed (asked head.code t (own a) (own b)).0 a)
+    (typed (asked head.code t (own a) (own b)).1 b)
+    (typed (asked head.code t (own a) (own b)).2 c)) (type_in wanted (three head a b c))
 
 -- ---- the marked operations
 
-abbrev pub mark : Head → Place → List Place
-mark head at = if head.must_fold then at ∷ [] else []
+abbrev pub mark : Bool → Place → List Place
+mark must_fold at = if must_fold then at ∷ [] else []
 
 abbrev pub under_type : (Ty → List Place) → Option Ty → List Place
 under_type places None = []
@@ -80,16 +80,16 @@ marks wanted at (leaf a) = []
 marks wanted at (one head a) =
     under_type (λ t.
     if is_dropped head.code t (own a) then marks None at a
-    else mark head at ++ marks (asked head t (own a) None).0 (below at 0) a) (type_in wanted (one head a))
+    else mark head.must_fold at ++ marks (asked head.code t (own a) None).0 (below at 0) a) (type_in wanted (one head a))
 marks wanted at (two head a b) =
     under_type (λ t.
-    (mark head at ++ marks (asked head t (own a) (own b)).0 (below at 0) a)
-    ++ marks (asked head t (own a) (own b)).1 (below at 1) b) (type_in wanted (two head a b))
+    (mark head.must_fold at ++ marks (asked head.code t (own a) (own b)).0 (below at 0) a)
+    ++ marks (asked head.code t (own a) (own b)).1 (below at 1) b) (type_in wanted (two head a b))
 marks wanted at (three head a b c) =
     under_type (λ t.
-    ((mark head at ++ marks (asked head t (own a) (own b)).0 (below at 0) a)
-    ++ marks (asked head t (own a) (own b)).1 (below at 1) b)
-    ++ marks (asked head t (own a) (own b)).2 (below at 2) c) (type_in wanted (three head a b c))
+    ((mark head.must_fold at ++ marks (asked head.code t (own a) (own b)).0 (below at 0) a)
+    ++ marks (asked head.code t (own a) (own b)).1 (below at 1) b)
+    ++ marks (asked head.code t (own a) (own b)).2 (below at 2) c) (type_in wanted (three head a b c))
 
 -- ---- the outermost operation
 

@@ -3,12 +3,12 @@ ghost use Rattle.std.specs.Prelude.{◌≡◌, ◌++◌, OnOk};
 ghost use Rattle.result_types.specs.Drafts.{shape_of};
 ghost use Rattle.result_build.specs.TypedResults.{mark, marks as marked_in};
 
-use crate::typed::{asks, is_dropped};
+use crate::typed::is_dropped;
 use pattern_rows::Place;
 use pm_items::Items;
 use pm_ops::OutOfMemory;
 use pm_wide::IntType;
-use result_types::{Draft, Head, own_type, type_where};
+use result_types::{Draft, asked_types, own_type, type_where};
 use std::alloc::Global;
 
 /// Adds, in preorder, the places of the marked operations of a draft whose term stands at a place.
@@ -32,15 +32,15 @@ pub(crate) fn list_marks(
             if is_dropped(head.code, ty, own) {
                 return list_marks(alloc, a.get(), None, at, marks);
             }
-            let asked = asks(*head, ty, own, None);
-            push_mark(alloc, *head, at, marks)?;
+            let asked = asked_types(head.code, ty, own, None);
+            push_mark(alloc, head.must_fold, at, marks)?;
             let first = at.below(alloc, 0)?;
             list_marks(alloc, a.get(), asked.0, &first, marks)
         }
         Draft::Two(head, a, b) => {
             let Some(ty) = ty else { return Ok(()) };
-            let asked = asks(*head, ty, own_type(a.get()), own_type(b.get()));
-            push_mark(alloc, *head, at, marks)?;
+            let asked = asked_types(head.code, ty, own_type(a.get()), own_type(b.get()));
+            push_mark(alloc, head.must_fold, at, marks)?;
             let first = at.below(alloc, 0)?;
             list_marks(alloc, a.get(), asked.0, &first, marks)?;
             let second = at.below(alloc, 1)?;
@@ -48,8 +48,8 @@ pub(crate) fn list_marks(
         }
         Draft::Three(head, a, b, c) => {
             let Some(ty) = ty else { return Ok(()) };
-            let asked = asks(*head, ty, own_type(a.get()), own_type(b.get()));
-            push_mark(alloc, *head, at, marks)?;
+            let asked = asked_types(head.code, ty, own_type(a.get()), own_type(b.get()));
+            push_mark(alloc, head.must_fold, at, marks)?;
             let first = at.below(alloc, 0)?;
             list_marks(alloc, a.get(), asked.0, &first, marks)?;
             let second = at.below(alloc, 1)?;
@@ -63,13 +63,13 @@ pub(crate) fn list_marks(
 /// Adds the place of an operation that is written with `!`.
 fn push_mark(
     alloc: Global,
-    head: Head,
+    must_fold: bool,
     at: &Place,
     marks: &mut Items<Place>,
 ) -> Result<(), OutOfMemory>
-    ensures { OnOk result (marks.new ≡ marks.old ++ mark head at.now) }
+    ensures { OnOk result (marks.new ≡ marks.old ++ mark must_fold at.now) }
 {
-    if head.must_fold {
+    if must_fold {
         marks.push(at.copy(alloc)?)?;
     }
     Ok(())

@@ -2,14 +2,14 @@
 ghost use Rattle.std.specs.Prelude.{◌≡◌, IfOk};
 ghost use Rattle.pm_wide.specs.Types.{same_type};
 ghost use Rattle.result_types.specs.Drafts.{shape_of};
-ghost use Rattle.result_build.specs.TypedResults.{asked, is_dropped as is_dropped_one, operation};
+ghost use Rattle.result_build.specs.TypedResults.{is_dropped as is_dropped_one, operation};
 ghost use Rattle.result_build.specs.TypedResults.{on_one, on_three, on_two, typed as typed_in};
 
 use pm_items::Items;
 use pm_ops::{Code, OutOfMemory};
 use pm_term::{BuildFault, Typed};
 use pm_wide::IntType;
-use result_types::{Draft, Head, asked_types, own_type, type_where};
+use result_types::{Draft, asked_types, own_type, type_where};
 use std::alloc::Global;
 
 /// The term of a draft for which a type may be asked, or nothing.
@@ -30,24 +30,24 @@ pub(crate) fn term_of(
             if is_dropped(head.code, ty, own) {
                 return term_of(alloc, a.get(), None);
             }
-            let asked = asks(*head, ty, own, None);
+            let asked = asked_types(head.code, ty, own, None);
             let a = term_of(alloc, a.get(), asked.0)?;
-            with_one(alloc, *head, ty, a)
+            with_one(alloc, head.code, ty, a)
         }
         Draft::Two(head, a, b) => {
             let Some(ty) = ty else { return Ok(None) };
-            let asked = asks(*head, ty, own_type(a.get()), own_type(b.get()));
+            let asked = asked_types(head.code, ty, own_type(a.get()), own_type(b.get()));
             let a = term_of(alloc, a.get(), asked.0)?;
             let b = term_of(alloc, b.get(), asked.1)?;
-            with_two(alloc, *head, ty, a, b)
+            with_two(alloc, head.code, ty, a, b)
         }
         Draft::Three(head, a, b, c) => {
             let Some(ty) = ty else { return Ok(None) };
-            let asked = asks(*head, ty, own_type(a.get()), own_type(b.get()));
+            let asked = asked_types(head.code, ty, own_type(a.get()), own_type(b.get()));
             let a = term_of(alloc, a.get(), asked.0)?;
             let b = term_of(alloc, b.get(), asked.1)?;
             let c = term_of(alloc, c.get(), asked.2)?;
-            with_three(alloc, *head, ty, a, b, c)
+            with_three(alloc, head.code, ty, a, b, c)
         }
     }
 }
@@ -69,64 +69,52 @@ pub(crate) fn is_same(a: IntType, b: IntType) -> bool
     a.bits() == b.bits() && a.unsigned() == b.unsigned()
 }
 
-/// What an operation of a type asks of its operands.
-pub(crate) fn asks(
-    head: Head,
-    ty: IntType,
-    a: Option<IntType>,
-    b: Option<IntType>,
-) -> (Option<IntType>, Option<IntType>, Option<IntType>)
-    ensures { result ≡ asked head ty a b }
-{
-    asked_types(head.code, ty, a, b)
-}
-
 /// An operation on one term that is there, where it is well typed.
 fn with_one(
     alloc: Global,
-    head: Head,
+    code: Code,
     ty: IntType,
     a: Option<Typed>,
 ) -> Result<Option<Typed>, OutOfMemory>
-    ensures { IfOk result (λ made. made ≡ on_one head ty a) }
+    ensures { IfOk result (λ made. made ≡ on_one code ty a) }
 {
     let Some(a) = a else { return Ok(None) };
     let args = Items::from_vec(vec![in alloc; a]?);
-    operation_on(alloc, head.code, ty, args)
+    operation_on(alloc, code, ty, args)
 }
 
 /// On two terms.
 fn with_two(
     alloc: Global,
-    head: Head,
+    code: Code,
     ty: IntType,
     a: Option<Typed>,
     b: Option<Typed>,
 ) -> Result<Option<Typed>, OutOfMemory>
-    ensures { IfOk result (λ made. made ≡ on_two head ty a b) }
+    ensures { IfOk result (λ made. made ≡ on_two code ty a b) }
 {
     let Some(a) = a else { return Ok(None) };
     let Some(b) = b else { return Ok(None) };
     let args = Items::from_vec(vec![in alloc; a, b]?);
-    operation_on(alloc, head.code, ty, args)
+    operation_on(alloc, code, ty, args)
 }
 
 /// On three terms.
 fn with_three(
     alloc: Global,
-    head: Head,
+    code: Code,
     ty: IntType,
     a: Option<Typed>,
     b: Option<Typed>,
     c: Option<Typed>,
 ) -> Result<Option<Typed>, OutOfMemory>
-    ensures { IfOk result (λ made. made ≡ on_three head ty a b c) }
+    ensures { IfOk result (λ made. made ≡ on_three code ty a b c) }
 {
     let Some(a) = a else { return Ok(None) };
     let Some(b) = b else { return Ok(None) };
     let Some(c) = c else { return Ok(None) };
     let args = Items::from_vec(vec![in alloc; a, b, c]?);
-    operation_on(alloc, head.code, ty, args)
+    operation_on(alloc, code, ty, args)
 }
 
 /// An operation on these terms, where it is well typed.
