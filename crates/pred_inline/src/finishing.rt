@@ -1,0 +1,167 @@
+//! Rows and cases whose uses are all inlined.
+ghost use Rattle.std.specs.Prelude.{◌≡◌, IfOk};
+ghost use Rattle.pred_inline.specs.Inlined.{all_before, all_round, before, case_finished, inside};
+ghost use Rattle.pred_inline.specs.Inlined.{result_changed, round, row_finished, tail_changed};
+
+use crate::case::Case;
+use crate::opened::{Opened, only};
+use capture_renaming::{Renamed, result_with, tail_with};
+use pattern_uses::copied_decls;
+use pd_ast::{Out, PredRow, Row, Tail};
+use pm_items::Shared;
+use pm_ops::OutOfMemory;
+use std::alloc::Global;
+
+/// A row, so many of whose conditions stand outside.
+pub fn row_finished(
+    alloc: Global,
+    row: &Row,
+    conditions: usize,
+    done: Opened,
+) -> Result<Row, OutOfMemory>
+    ensures { IfOk result (λ made. made ≡ row_finished row.now conditions done) }
+{
+    let gives = result_changed(alloc, done.changes.as_slice(), &row.result)?;
+    Ok(Row {
+        at: row.at,
+        result: inside(alloc, conditions, done.tails.as_slice(), &gives)?,
+        pattern: done.pattern,
+    })
+}
+
+/// A case of a predicate.
+pub fn case_finished(alloc: Global, case: &Case, done: Opened) -> Result<Case, OutOfMemory>
+    ensures { IfOk result (λ made. made ≡ case_finished case.now done) }
+{
+    let last = tail_changed(alloc, done.changes.as_slice(), &case.row.tail)?;
+    let tail = all_before(alloc, done.tails.as_slice(), &last)?;
+    Ok(Case {
+        params: done.params,
+        same: done.same,
+        row: PredRow {
+            at: case.row.at,
+            pattern: done.pattern,
+            tail,
+        },
+    })
+}
+
+/// A result with the changes of its row made.
+fn result_changed(
+    alloc: Global,
+    changes: &[Renamed],
+    gives: &Shared<Out>,
+) -> Result<Shared<Out>, OutOfMemory>
+    ensures { IfOk result (λ made. made ≡ result_changed changes.now gives.now) }
+{
+    let mut made = gives.share()?;
+    for one in changes {
+        let by = only(alloc, one)?;
+        made = Shared::new(alloc, result_with(alloc, &by, made.get())?)?;
+    }
+    Ok(made)
+}
+
+fn tail_changed(
+    alloc: Global,
+    changes: &[Renamed],
+    rest: &Shared<Tail>,
+) -> Result<Shared<Tail>, OutOfMemory>
+    ensures { IfOk result (λ made. made ≡ tail_changed changes.now rest.now) }
+{
+    let mut made = rest.share()?;
+    for one in changes {
+        let by = only(alloc, one)?;
+        made = Shared::new(alloc, tail_with(alloc, &by, made.get())?)?;
+    }
+    Ok(made)
+}
+
+/// The ends of cases inside so many conditions, which stand outside.
+fn inside(
+    alloc: Global,
+    conditions: usize,
+    tails: &[Shared<Tail>],
+    gives: &Shared<Out>,
+) -> Result<Shared<Out>, OutOfMemory>
+    ensures { IfOk result (λ made. made ≡ inside conditions tails.now gives.now) }
+{
+    if conditions == 0 {
+        return all_round(alloc, tails, gives);
+    }
+    match gives.get() {
+        Out::If(when, inner, None) => {
+            let inner = inside(alloc, conditions - 1, tails, inner)?;
+            Ok(Shared::new(alloc, Out::If(when.copy(alloc)?, inner, None))?)
+        }
+        _ => all_round(alloc, tails, gives),
+    }
+}
+
+/// The ends of cases round a result, the first one outside.
+fn all_round(
+    alloc: Global,
+    tails: &[Shared<Tail>],
+    gives: &Shared<Out>,
+) -> Result<Shared<Out>, OutOfMemory>
+    ensures { IfOk result (λ made. made ≡ all_round tails.now gives.now) }
+{
+    match tails {
+        [] => Ok(gives.share()?),
+        [rest, behind @ ..] => {
+            let inner = all_round(alloc, behind, gives)?;
+            round(alloc, rest.get(), inner)
+        }
+    }
+}
+
+fn round(alloc: Global, rest: &Tail, gives: Shared<Out>) -> Result<Shared<Out>, OutOfMemory>
+    ensures { IfOk result (λ made. made ≡ round rest.now gives) }
+{
+    match rest {
+        Tail::Done => Ok(gives),
+        Tail::If(when, rest) => {
+            let inner = round(alloc, rest.get(), gives)?;
+            Ok(Shared::new(alloc, Out::If(when.copy(alloc)?, inner, None))?)
+        }
+        Tail::With(decls, rest) => {
+            let inner = round(alloc, rest.get(), gives)?;
+            let decls = copied_decls(alloc, decls.as_slice())?;
+            Ok(Shared::new(alloc, Out::With(decls, inner))?)
+        }
+    }
+}
+
+/// The ends of cases before another end, the first one first.
+fn all_before(
+    alloc: Global,
+    tails: &[Shared<Tail>],
+    last: &Shared<Tail>,
+) -> Result<Shared<Tail>, OutOfMemory>
+    ensures { IfOk result (λ made. made ≡ all_before tails.now last.now) }
+{
+    match tails {
+        [] => Ok(last.share()?),
+        [rest, behind @ ..] => {
+            let inner = all_before(alloc, behind, last)?;
+            before(alloc, rest.get(), inner)
+        }
+    }
+}
+
+fn before(alloc: Global, rest: &Tail, last: Shared<Tail>) -> Result<Shared<Tail>, OutOfMemory>
+    ensures { IfOk result (λ made. made ≡ before rest.now last) }
+{
+    match rest {
+        Tail::Done => Ok(last),
+        Tail::If(when, rest) => {
+            let inner = before(alloc, rest.get(), last)?;
+            Ok(Shared::new(alloc, Tail::If(when.copy(alloc)?, inner))?)
+        }
+        Tail::With(decls, rest) => {
+            let inner = before(alloc, rest.get(), last)?;
+            let decls = copied_decls(alloc, decls.as_slice())?;
+            Ok(Shared::new(alloc, Tail::With(decls, inner))?)
+        }
+    }
+}
