@@ -1,7 +1,6 @@
 -- The uses of predicates of a pattern, in preorder, taken out of it: each leaves its label behind,
 -- with its capture and without its arguments.
-use Rattle.std.specs.Prelude.{ℕ, ◌+◌, Bool, if◌then◌else◌, List, [], ◌∷◌, ◌++◌, map, length, drop, Option, Some, None, decimal}
-use Rattle.std.specs.List.{range_with_len}
+use Rattle.std.specs.Prelude.{ℕ, ◌+◌, Bool, if◌then◌else◌, List, [], ◌∷◌, ◌++◌, length, drop, Option, Some, None, decimal}
 use Rattle.std.specs.Str.{bytes_eq}
 use Rattle.pm_ops.specs.Names.{Name}
 use Rattle.pd_ast.specs.declared.pattern.Cap.{Cap}
@@ -34,8 +33,12 @@ used_by_node = fold-PatNode (List Name) (List Name) used_in_layer used_in_node
 abbrev pub label : ℕ → Name
 label i = decimal (i + 1)
 
-abbrev pub labels : ℕ → List Name
-labels count = map label (range_with_len 0 count)
+abbrev pub labels_from : ℕ → List Name → List Name
+labels_from i [] = []
+labels_from i (name ∷ names) = label i ∷ labels_from (i + 1) names
+
+abbrev pub labels : List Name → List Name
+labels names = labels_from 0 names
 
 abbrev pub first_label : List Name → Name
 first_label [] = []

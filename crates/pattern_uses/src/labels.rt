@@ -15,12 +15,12 @@ pub fn label(alloc: Global, before: usize) -> Result<Text, OutOfMemory>
     Text::new(alloc, buffer.format(before as u128 + 1).as_bytes())
 }
 
-/// The labels of so many uses.
-pub fn labels(alloc: Global, count: usize) -> Result<Items<Text>, OutOfMemory>
-    ensures { IfOk result (λ made. made ≡ labels count) }
+/// A label for the use of each of these predicates.
+pub fn labels(alloc: Global, names: &[Text]) -> Result<Items<Text>, OutOfMemory>
+    ensures { IfOk result (λ made. made ≡ labels names.now) }
 {
     let mut made = Items::new(alloc);
-    for i in 0..count {
+    for i in 0..names.len() {
         made.push(label(alloc, i)?)?;
     }
     Ok(made)

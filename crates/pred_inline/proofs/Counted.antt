@@ -1,5 +1,5 @@
 -- How many choices there are of a case of each of several predicates.
-use Rattle.std.proofs.Common.{◌≡◌, ℕ, ◌+◌, ◌*◌, ◌≤◌, ◌<◌, inl, inr, min, List, [], ◌∷◌, ◌++◌, length, map, refl, ap, ◌∙◌, arith}
+use Rattle.std.proofs.Common.{◌≡◌, ℕ, ◌+◌, ◌*◌, ◌≤◌, ◌<◌, inl, inr, min, List, [], ◌∷◌, ◌++◌, length, map, refl, sym, ap, ◌∙◌, arith}
 use Rattle.std.specs.List.{flat_map}
 use Rattle.std.proofs.lemmas.Bool.{cases_lt}
 use Rattle.std.proofs.lemmas.List.{length-append, length-map}
@@ -32,4 +32,4 @@ capped m a b = elim (cases_lt m b) [ inl h ↦ above m a b h | inr h ↦ below m
 pub counted : (m : ℕ) (cases : List Case) (rest : List (List Case)) → min (length cases * min (length (choices rest)) m) m ≡ min (length (choices (cases ∷ rest))) m
 counted m cases rest =
     capped m (length cases) (length (choices rest))
-    ∙ ap (λ n. min n m) (λ i. product (choices rest) cases (~ i))
+    ∙ ap (λ n. min n m) (sym (product (choices rest) cases))

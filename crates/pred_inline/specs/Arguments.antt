@@ -1,6 +1,6 @@
 -- The arguments of a use in a case of its predicate: what the captures of the case are called there.
-use Rattle.std.specs.Prelude.{ℕ, suc, nat_lt, slice_get, Bool, if◌then◌else◌, List, [], ◌∷◌, ◌++◌, Option, Some, None, codes}
-use Rattle.std.specs.List.{count_by, filter_map}
+use Rattle.std.specs.Prelude.{ℕ, suc, slice_get, Bool, false, if◌then◌else◌, List, [], ◌∷◌, ◌++◌, Option, Some, None, codes}
+use Rattle.std.specs.List.{filter_map, list_any}
 use Rattle.std.specs.Str.{bytes_eq}
 use Rattle.pm_ops.specs.Names.{Name}
 use Rattle.pd_ast.specs.declared.pattern.Cap.{Cap}
@@ -46,13 +46,16 @@ naming own case args subject = record {
   subject = subject;
 }
 
--- how often a name occurs in the case, its end included
-abbrev pub occurrences : Case → Name → ℕ
-occurrences case name =
-    count_by (bytes_eq name) (capture_names case.row.pattern ++ captures_of_tail case.row.tail)
+-- a name stands among these, and again behind that place
+abbrev pub stands_twice : Name → List Name → Bool
+stands_twice name [] = false
+stands_twice name (other ∷ names) =
+    if bytes_eq name other then list_any (bytes_eq name) names else stands_twice name names
 
+-- a name occurs more than once in the case, its end included
 abbrev pub occurs_again : Case → Name → Bool
-occurs_again case name = nat_lt 1 (occurrences case name)
+occurs_again case name =
+    stands_twice name (capture_names case.row.pattern ++ captures_of_tail case.row.tail)
 
 -- an argument that is no capture alone
 abbrev pub moved : Option Pat → Option Pat

@@ -37,10 +37,10 @@ rows_fault preds row conditions =
     or_fault (many_fault row.at (length (choices (cases_of_uses preds row.pattern))))
     (first_fault (map (λ (one : Row). limit_fault row.at one.pattern) (rows_inlined preds row conditions)))
 
-abbrev pub cases_fault : List Predicate → Case → Option PatternFault
-cases_fault preds case =
+abbrev pub cases_fault : List Predicate → Case → ℕ → Option PatternFault
+cases_fault preds case conditions =
     or_fault (many_fault case.row.at (length (choices (cases_of_uses preds case.row.pattern))))
-    (first_fault (map (λ (one : Case). limit_fault case.row.at one.row.pattern) (cases_inlined preds case)))
+    (first_fault (map (λ (one : Case). limit_fault case.row.at one.row.pattern) (cases_inlined preds case conditions)))
 
 abbrev pub is_memory_kind : PatternKind → Bool
 is_memory_kind Memory = true

@@ -1,5 +1,5 @@
 -- The rows of a row, and the cases of a case, by the cases of the predicates that it uses.
-use Rattle.std.specs.Prelude.{ℕ, zero, suc, ◌+◌, List, [], ◌∷◌, length, map, Option, Some, None, find}
+use Rattle.std.specs.Prelude.{ℕ, zero, suc, ◌+◌, List, [], ◌∷◌, map, Option, Some, None, find}
 use Rattle.std.specs.List.{flat_map}
 use Rattle.std.specs.Str.{bytes_eq}
 use Rattle.pm_ops.specs.Names.{Name}
@@ -11,7 +11,7 @@ use Rattle.pd_ast.specs.declared.result.Out.TheOpen as open-out
 use Rattle.pd_ast.specs.declared.result.Out.TheVariants as made-out
 use Rattle.pd_ast.specs.declared.result.OutNode.{OutNode}
 use Rattle.pd_ast.specs.declared.result.SwitchCase.{SwitchCase}
-use Rattle.pd_ast.specs.declared.result.Tail.{Tail, Tail-F, fold-Tail}
+use Rattle.pd_ast.specs.declared.result.Tail.{Tail, Tail-F, fold-Tail, out-Tail}
 use Rattle.pd_ast.specs.declared.result.Tail.TheOpen as open-tail
 use Rattle.pd_ast.specs.declared.result.Tail.TheVariants as made-tail
 use Rattle.capture_renaming.specs.Trees.{result_with, tail_with}
@@ -34,7 +34,7 @@ choices (cases ∷ rest) = flat_map (before_each (choices rest)) cases
 
 abbrev pub begun : Pat → List Name → List Pair → Opened
 begun pattern params same =
-    let out = taken pattern (labels (length (used_predicates pattern))) in
+    let out = taken pattern (labels (used_predicates pattern)) in
     record {
       pattern = out.pattern;
       args = [];
@@ -75,7 +75,7 @@ abbrev pub all_before : List Tail → Tail → Tail
 all_before [] last = last
 all_before (rest ∷ tails) last = before rest (all_before tails last)
 
--- the ends of the cases inside so many conditions, which stand outside
+-- the ends of the cases round a result, but inside so many of its conditions, which stand outside
 abbrev pub inside_layer : (Out → Out) → List Tail → Out-F Out OutNode SwitchCase → Out → Out
 inside_layer deeper tails (open-out.If when gives None) whole = made-out.If when (deeper gives) None
 inside_layer deeper tails layer whole = all_round tails whole
@@ -83,6 +83,15 @@ inside_layer deeper tails layer whole = all_round tails whole
 abbrev pub inside : ℕ → List Tail → Out → Out
 inside zero tails gives = all_round tails gives
 inside (suc n) tails gives = inside_layer (inside n tails) tails (out-Out gives) gives
+
+-- the same of the end of a case: behind so many of its conditions, and before the rest of it
+abbrev pub behind_layer : (Tail → Tail) → List Tail → Tail-F Tail → Tail → Tail
+behind_layer deeper tails (open-tail.If when rest) whole = made-tail.If when (deeper rest)
+behind_layer deeper tails layer whole = all_before tails whole
+
+abbrev pub behind : ℕ → List Tail → Tail → Tail
+behind zero tails last = all_before tails last
+behind (suc n) tails last = behind_layer (behind n tails) tails (out-Tail last) last
 
 -- a result or an end with the changes of its row made
 abbrev pub result_changed : List Renamed → Out → Out
@@ -105,20 +114,21 @@ abbrev pub row_by : Row → ℕ → List Case → Row
 row_by row conditions cases =
     row_finished row conditions (all_inlined 0 cases (begun row.pattern [] []))
 
-abbrev pub case_finished : Case → Opened → Case
-case_finished case done = record {
+-- a case, so many of whose conditions stand outside, by one choice of cases
+abbrev pub case_finished : Case → ℕ → Opened → Case
+case_finished case conditions done = record {
   params = done.params;
   same = done.same;
   row = record {
     at = case.row.at;
     pattern = done.pattern;
-    tail = all_before done.tails (tail_changed done.changes case.row.tail);
+    tail = behind conditions done.tails (tail_changed done.changes case.row.tail);
   };
 }
 
-abbrev pub case_by : Case → List Case → Case
-case_by case cases =
-    case_finished case (all_inlined 0 cases (begun case.row.pattern case.params case.same))
+abbrev pub case_by : Case → ℕ → List Case → Case
+case_by case conditions cases =
+    case_finished case conditions (all_inlined 0 cases (begun case.row.pattern case.params case.same))
 
 -- the cases of the predicate of that name
 abbrev pub cases_or_none : Option Predicate → List Case
@@ -136,5 +146,6 @@ abbrev pub rows_inlined : List Predicate → Row → ℕ → List Row
 rows_inlined preds row conditions =
     map (row_by row conditions) (choices (cases_of_uses preds row.pattern))
 
-abbrev pub cases_inlined : List Predicate → Case → List Case
-cases_inlined preds case = map (case_by case) (choices (cases_of_uses preds case.row.pattern))
+abbrev pub cases_inlined : List Predicate → Case → ℕ → List Case
+cases_inlined preds case conditions =
+    map (case_by case conditions) (choices (cases_of_uses preds case.row.pattern))

@@ -1,11 +1,11 @@
 //! The arguments of a use in a case of its predicate.
-ghost use Rattle.std.specs.Prelude.{◌≡◌, nat_lt, IfOk};
-ghost use Rattle.std.specs.List.{count_by, filter_map};
+ghost use Rattle.std.specs.Prelude.{◌≡◌, IfOk};
+ghost use Rattle.std.specs.List.{filter_map, list_any};
 ghost use Rattle.std.specs.Option.{option_copied};
 ghost use Rattle.std.specs.Str.{bytes_eq};
 ghost use Rattle.pred_inline.specs.Arguments.{argument_for, capture_of_argument, moved, naming};
 ghost use Rattle.pred_inline.specs.Arguments.{occurs_again, place_of, pointed, renamed_param};
-ghost use Rattle.pred_inline.specs.Arguments.{renamed_to};
+ghost use Rattle.pred_inline.specs.Arguments.{renamed_to, stands_twice};
 
 use crate::case::Case;
 use capture_renaming::{Renamed, Renaming};
@@ -118,17 +118,28 @@ pub fn occurs_again(alloc: Global, case: &Case, name: &Text) -> Result<bool, Out
     Ok(stands_twice(name, names.as_slice()))
 }
 
-/// Whether a name stands more than once among these.
+/// Whether a name stands among these, and again behind that place.
 fn stands_twice(name: &Text, names: &[Text]) -> bool
-    ensures { result ≡ nat_lt 1 (count_by (bytes_eq name.now) names.now) }
+    ensures { result ≡ stands_twice name.now names.now }
 {
-    let mut count: usize = 0;
-    for other in names {
-        if name.bytes() == other.bytes() {
-            count += 1;
+    for i in 0..names.len() {
+        if name.bytes() == names[i].bytes() {
+            return is_among(name, &names[i + 1..]);
         }
     }
-    count > 1
+    false
+}
+
+/// Whether a name is one of these.
+pub fn is_among(name: &Text, names: &[Text]) -> bool
+    ensures { result ≡ list_any (bytes_eq name.now) names.now }
+{
+    for other in names {
+        if name.bytes() == other.bytes() {
+            return true;
+        }
+    }
+    false
 }
 
 /// An argument that is no capture alone.

@@ -1,13 +1,11 @@
 //! The pattern of a case as it stands for a use.
 ghost use Rattle.std.specs.Prelude.{◌≡◌, ◌++◌, map, IfOk, OnOk};
-ghost use Rattle.std.specs.List.{list_any};
 ghost use Rattle.std.specs.Option.{option_copied};
-ghost use Rattle.std.specs.Str.{bytes_eq};
 ghost use Rattle.pattern_uses.specs.Captures.{capture_of};
 ghost use Rattle.pred_inline.specs.Filled.{all_filled, all_holes, case_filled, filling, hole_filled};
 ghost use Rattle.pred_inline.specs.Filled.{in_place, node_filling, standing};
 
-use crate::arguments::{argument_for, moved, occurs_again};
+use crate::arguments::{argument_for, is_among, moved, occurs_again};
 use crate::case::Case;
 use capture_renaming::{Renaming, cap_with, maybe_cap_with};
 use pattern_uses::{capture_of, captured};
@@ -169,16 +167,4 @@ fn standing(
             Ok(arg.share()?)
         }
     }
-}
-
-/// Whether a name is one of these.
-pub fn is_among(name: &Text, names: &[Text]) -> bool
-    ensures { result ≡ list_any (bytes_eq name.now) names.now }
-{
-    for other in names {
-        if name.bytes() == other.bytes() {
-            return true;
-        }
-    }
-    false
 }

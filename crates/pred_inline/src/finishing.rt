@@ -1,7 +1,8 @@
 //! Rows and cases whose uses are all inlined.
 ghost use Rattle.std.specs.Prelude.{◌≡◌, IfOk};
-ghost use Rattle.pred_inline.specs.Inlined.{all_before, all_round, before, case_finished, inside};
-ghost use Rattle.pred_inline.specs.Inlined.{result_changed, round, row_finished, tail_changed};
+ghost use Rattle.pred_inline.specs.Inlined.{all_before, all_round, before, behind, case_finished};
+ghost use Rattle.pred_inline.specs.Inlined.{inside, result_changed, round, row_finished};
+ghost use Rattle.pred_inline.specs.Inlined.{tail_changed};
 
 use crate::case::Case;
 use crate::opened::{Opened, only};
@@ -29,12 +30,17 @@ pub fn row_finished(
     })
 }
 
-/// A case of a predicate.
-pub fn case_finished(alloc: Global, case: &Case, done: Opened) -> Result<Case, OutOfMemory>
-    ensures { IfOk result (λ made. made ≡ case_finished case.now done) }
+/// A case of a predicate, so many of whose conditions stand outside.
+pub fn case_finished(
+    alloc: Global,
+    case: &Case,
+    conditions: usize,
+    done: Opened,
+) -> Result<Case, OutOfMemory>
+    ensures { IfOk result (λ made. made ≡ case_finished case.now conditions done) }
 {
     let last = tail_changed(alloc, done.changes.as_slice(), &case.row.tail)?;
-    let tail = all_before(alloc, done.tails.as_slice(), &last)?;
+    let tail = behind(alloc, conditions, done.tails.as_slice(), &last)?;
     Ok(Case {
         params: done.params,
         same: done.same,
@@ -78,6 +84,7 @@ fn tail_changed(
 }
 
 /// The ends of cases inside so many conditions, which stand outside.
+#[tactic(auto, using(crate::proofs::Outside::inside_none, crate::proofs::Outside::inside_some))]
 fn inside(
     alloc: Global,
     conditions: usize,
@@ -94,7 +101,8 @@ fn inside(
             let inner = inside(alloc, conditions - 1, tails, inner)?;
             Ok(Shared::new(alloc, Out::If(when.copy(alloc)?, inner, None))?)
         }
-        _ => all_round(alloc, tails, gives),
+        Out::If(_, _, Some(_)) | Out::Hole(_) | Out::Brace(_) => all_round(alloc, tails, gives),
+        Out::Node(_) | Out::Switch(_, _) | Out::With(_, _) => all_round(alloc, tails, gives),
     }
 }
 
@@ -129,6 +137,28 @@ fn round(alloc: Global, rest: &Tail, gives: Shared<Out>) -> Result<Shared<Out>, 
             let decls = copied_decls(alloc, decls.as_slice())?;
             Ok(Shared::new(alloc, Out::With(decls, inner))?)
         }
+    }
+}
+
+/// The ends of cases behind so many conditions of another end, and before the rest of it.
+#[tactic(auto, using(crate::proofs::Outside::behind_none, crate::proofs::Outside::behind_some))]
+fn behind(
+    alloc: Global,
+    conditions: usize,
+    tails: &[Shared<Tail>],
+    last: &Shared<Tail>,
+) -> Result<Shared<Tail>, OutOfMemory>
+    ensures { IfOk result (λ made. made ≡ behind conditions tails.now last.now) }
+{
+    if conditions == 0 {
+        return all_before(alloc, tails, last);
+    }
+    match last.get() {
+        Tail::If(when, rest) => {
+            let rest = behind(alloc, conditions - 1, tails, rest)?;
+            Ok(Shared::new(alloc, Tail::If(when.copy(alloc)?, rest))?)
+        }
+        Tail::Done | Tail::With(_, _) => all_before(alloc, tails, last),
     }
 }
 

@@ -84,21 +84,22 @@ fn row_by(
 }
 
 /// The cases of a case by the cases of the predicates that it uses, in the same order and with the
-/// same faults.
+/// same faults. So many conditions of its end stand outside of the ends of those cases.
 pub fn inline_case(
     alloc: Global,
     case: &Case,
+    conditions: usize,
     preds: &[Predicate],
 ) -> Result<Items<Case>, PatternFault>
-    ensures fault { Judges (cases_fault preds.now case.now) result }
-    ensures value { IfOk result (λ made. made ≡ cases_inlined preds.now case.now) }
+    ensures fault { Judges (cases_fault preds.now case.now conditions) result }
+    ensures value { IfOk result (λ made. made ≡ cases_inlined preds.now case.now conditions) }
 {
     let names = used_predicates(alloc, case.row.pattern.get())?;
     match many_fault(case.row.at, preds, names.as_slice()) {
         Some(fault) => Err(fault),
         None => {
             let choices = choices(alloc, preds, names.as_slice())?;
-            cases_by(alloc, case, choices.as_slice())
+            cases_by(alloc, case, conditions, choices.as_slice())
         }
     }
 }
@@ -106,15 +107,16 @@ pub fn inline_case(
 fn cases_by(
     alloc: Global,
     case: &Case,
+    conditions: usize,
     choices: &[Items<Shared<Case>>],
 ) -> Result<Items<Case>, PatternFault>
     ensures fault { Judges (first_fault (map (λ (one : Case).
-        limit_fault case.now.row.at one.row.pattern) (map (case_by case.now) choices.now))) result }
-    ensures value { IfOk result (λ made. made ≡ map (case_by case.now) choices.now) }
+        limit_fault case.now.row.at one.row.pattern) (map (case_by case.now conditions) choices.now))) result }
+    ensures value { IfOk result (λ made. made ≡ map (case_by case.now conditions) choices.now) }
 {
     let mut made = Items::new(alloc);
     for cases in choices {
-        let one = case_by(alloc, case, cases.as_slice())?;
+        let one = case_by(alloc, case, conditions, cases.as_slice())?;
         if let Some(fault) = limit_fault(alloc, case.row.at, one.row.pattern.get())? {
             return Err(fault);
         }
@@ -123,13 +125,18 @@ fn cases_by(
     Ok(made)
 }
 
-fn case_by(alloc: Global, case: &Case, cases: &[Shared<Case>]) -> Result<Case, OutOfMemory>
-    ensures { IfOk result (λ made. made ≡ case_by case.now cases.now) }
+fn case_by(
+    alloc: Global,
+    case: &Case,
+    conditions: usize,
+    cases: &[Shared<Case>],
+) -> Result<Case, OutOfMemory>
+    ensures { IfOk result (λ made. made ≡ case_by case.now conditions cases.now) }
 {
     let params = copied_names(alloc, case.params.as_slice())?;
     let same = copied_pairs(alloc, case.same.as_slice())?;
     let open = begun(alloc, case.row.pattern.get(), params, same)?;
-    case_finished(alloc, case, all_inlined(alloc, cases, open)?)
+    case_finished(alloc, case, conditions, all_inlined(alloc, cases, open)?)
 }
 
 fn copied_pairs(alloc: Global, pairs: &[Pair]) -> Result<Items<Pair>, OutOfMemory>
@@ -155,7 +162,7 @@ fn begun(
     ensures { IfOk result (λ made. made ≡ begun pattern.now params same) }
 {
     let names = used_predicates(alloc, pattern)?;
-    let names = labels(alloc, names.len())?;
+    let names = labels(alloc, names.as_slice())?;
     let out = taken(alloc, pattern, names.as_slice())?;
     Ok(Opened {
         pattern: Shared::new(alloc, out.pattern)?,

@@ -4,9 +4,9 @@ ghost use Rattle.pred_inline.specs.OneUse.{case_placed, name_of, one_inlined, pl
 ghost use Rattle.pred_inline.specs.OneUse.{placed_with, stay_two, taken_up, use_capture, use_placed};
 ghost use Rattle.pred_inline.specs.OneUse.{with_pair};
 
-use crate::arguments::{naming, pointed};
+use crate::arguments::{is_among, naming, pointed};
 use crate::case::{Case, Pair};
-use crate::filling::{case_filled, is_among};
+use crate::filling::case_filled;
 use crate::opened::{Opened, united};
 use crate::uniting::pairs_united;
 use capture_renaming::{Renaming, tail_with};

@@ -1,9 +1,6 @@
-use Rattle.std.proofs.Common.{◌≡◌, ◌≤◌, take}
-use Rattle.std.specs.List.{count_by}
-use Rattle.std.specs.Str.{bytes_eq}
+use Rattle.std.proofs.Common.{◌≡◌, drop}
+use Rattle.pred_inline.specs.Arguments.{stands_twice}
 use Rattle.pred_inline.proofs.arguments.stands_twice.Given as goal
 
-abbrev pub invariant-loop-other : goal.invariant-loop-other
-invariant-loop-other l =
-    (l.count ≡ count_by (bytes_eq l.name) (take l.other-index l.names))
-    × (l.count ≤ l.other-index)
+abbrev pub invariant-loop-i : goal.invariant-loop-i
+invariant-loop-i l = stands_twice l.name (drop l.i l.names) ≡ stands_twice l.name l.names
