@@ -9,12 +9,9 @@ use Rattle.pd_ast.specs.declared.pattern.PatNode.{PatNode, PatNode-F, fold-PatNo
 use Rattle.pattern_uses.specs.Captures.{capture_names}
 
 -- how many different names there are, each counted where it stands last
-abbrev pub last_of_name : Name → List Name → ℕ
-last_of_name name names = if list_any (bytes_eq name) names then 0 else 1
-
 abbrev pub distinct : List Name → ℕ
 distinct [] = 0
-distinct (name ∷ names) = last_of_name name names + distinct names
+distinct (name ∷ names) = (if list_any (bytes_eq name) names then 0 else 1) + distinct names
 
 abbrev pub capture_count : Pat → ℕ
 capture_count pattern = distinct (capture_names pattern)

@@ -1,6 +1,8 @@
 //! How many captures and operations a pattern has.
 ghost use Rattle.std.specs.Prelude.{◌≡◌, ◌-◌, ◌^◌, map, min, IfOk};
-ghost use Rattle.pattern_uses.specs.Counts.{capture_count, distinct, last_of_name};
+ghost use Rattle.std.specs.List.{list_any};
+ghost use Rattle.std.specs.Str.{bytes_eq};
+ghost use Rattle.pattern_uses.specs.Counts.{capture_count, distinct};
 ghost use Rattle.pattern_uses.specs.Counts.{node_operations, operations, total};
 
 use crate::captures::capture_names;
@@ -9,34 +11,37 @@ use pm_items::Shared;
 use pm_ops::{OutOfMemory, Text};
 use std::alloc::Global;
 
-/// How many captures a pattern has, each name counted once. Stands still at 2^64 - 1.
-pub fn capture_count(alloc: Global, pattern: &Pat) -> Result<u64, OutOfMemory>
-    ensures { IfOk result (λ count.
-        count ≡ min (capture_count pattern.now) (2 ^ 64 - 1)) }
+/// How many captures a pattern has, each name counted once.
+pub fn capture_count(alloc: Global, pattern: &Pat) -> Result<usize, OutOfMemory>
+    ensures { IfOk result (λ count. count ≡ capture_count pattern.now) }
 {
     let names = capture_names(alloc, pattern)?;
     Ok(distinct(names.as_slice()))
 }
 
-fn distinct(names: &[Text]) -> u64
-    ensures { result ≡ min (distinct names.now) (2 ^ 64 - 1) }
+/// How many different names there are.
+fn distinct(names: &[Text]) -> usize
+    ensures { result ≡ distinct names.now }
 {
-    let mut count: u64 = 0;
+    let mut count: usize = 0;
     for i in 0..names.len() {
-        count = count.saturating_add(last_of_name(&names[i], &names[i + 1..]));
+        if !is_among(&names[i], &names[i + 1..]) {
+            count += 1;
+        }
     }
     count
 }
 
-fn last_of_name(name: &Text, names: &[Text]) -> u64
-    ensures { result ≡ last_of_name name.now names.now }
+/// Whether a name is one of these.
+pub fn is_among(name: &Text, names: &[Text]) -> bool
+    ensures { result ≡ list_any (bytes_eq name.now) names.now }
 {
     for other in names {
         if name.bytes() == other.bytes() {
-            return 0;
+            return true;
         }
     }
-    1
+    false
 }
 
 /// How many operations a pattern has. Stands still at 2^64 - 1.

@@ -10,7 +10,7 @@ mod sharing;
 mod taking;
 
 pub use captures::{capture_names, capture_of, captured, is_hole};
-pub use counts::{capture_count, operations};
+pub use counts::{capture_count, is_among, operations};
 pub use labels::{label, labels};
 pub use mention::{asks_subject, captures_of_tail};
 pub use sharing::{copied_cap, copied_decls, copied_names, shared_patterns};

@@ -15,7 +15,7 @@ use std::alloc::Global;
 /// A pattern with labels in the place of its uses, and the arguments of these.
 #[derive(Debug, Drop)]
 pub struct Cut {
-    pub pattern: Pat,
+    pub pattern: Shared<Pat>,
     pub uses: Items<Items<Shared<Pat>>>,
 }
 
@@ -68,14 +68,14 @@ fn used_among(alloc: Global, patterns: &[Shared<Pat>]) -> Result<Items<Text>, Ou
     Ok(made)
 }
 
-/// A pattern with its uses taken out.
+/// A pattern with its uses taken out, each of which leaves the next of these labels.
 #[cycle(taken)]
-pub fn taken(alloc: Global, pattern: &Pat, names: &[Text]) -> Result<Cut, OutOfMemory>
+pub fn taken(alloc: Global, pattern: &Shared<Pat>, names: &[Text]) -> Result<Cut, OutOfMemory>
     ensures { IfOk result (λ made. made ≡ taken pattern.now names.now) }
 {
-    match pattern {
+    match pattern.get() {
         Pat::Hole(_) | Pat::Test(_, _) => Ok(Cut {
-            pattern: pattern.copy(alloc)?,
+            pattern: pattern.share()?,
             uses: Items::new(alloc),
         }),
         Pat::Call(_, args, cap) => {
@@ -85,7 +85,7 @@ pub fn taken(alloc: Global, pattern: &Pat, names: &[Text]) -> Result<Cut, OutOfM
         Pat::Node(node) => {
             let one = taken_from_node(alloc, node, names)?;
             Ok(Cut {
-                pattern: Pat::Node(one.node),
+                pattern: Shared::new(alloc, Pat::Node(one.node))?,
                 uses: one.uses,
             })
         }
@@ -121,9 +121,9 @@ fn all_taken(alloc: Global, patterns: &[Shared<Pat>], names: &[Text]) -> Result<
     };
     let mut names = names;
     for pattern in patterns {
-        let one = taken(alloc, pattern.get(), names)?;
+        let one = taken(alloc, pattern, names)?;
         names = behind(names, one.uses.len());
-        made.patterns.push(Shared::new(alloc, one.pattern)?)?;
+        made.patterns.push(one.pattern)?;
         made.uses.append(one.uses)?;
     }
     Ok(made)
@@ -141,8 +141,9 @@ fn taken_call(
     let mut uses = Items::new(alloc);
     uses.push(inner.patterns)?;
     uses.append(inner.uses)?;
+    let left = Pat::Call(label, Items::new(alloc), copied_cap(alloc, cap)?);
     Ok(Cut {
-        pattern: Pat::Call(label, Items::new(alloc), copied_cap(alloc, cap)?),
+        pattern: Shared::new(alloc, left)?,
         uses,
     })
 }

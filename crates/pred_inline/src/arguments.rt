@@ -1,15 +1,14 @@
 //! The arguments of a use in a case of its predicate.
 ghost use Rattle.std.specs.Prelude.{◌≡◌, IfOk};
-ghost use Rattle.std.specs.List.{filter_map, list_any};
+ghost use Rattle.std.specs.List.{filter_map};
 ghost use Rattle.std.specs.Option.{option_copied};
-ghost use Rattle.std.specs.Str.{bytes_eq};
 ghost use Rattle.pred_inline.specs.Arguments.{argument_for, capture_of_argument, moved, naming};
 ghost use Rattle.pred_inline.specs.Arguments.{occurs_again, place_of, pointed, renamed_param};
 ghost use Rattle.pred_inline.specs.Arguments.{renamed_to, stands_twice};
 
 use crate::case::Case;
 use capture_renaming::{Renamed, Renaming};
-use pattern_uses::{capture_names, capture_of, captures_of_tail, is_hole};
+use pattern_uses::{capture_names, capture_of, captures_of_tail, is_among, is_hole};
 use pd_ast::{Cap, Pat};
 use pm_items::{Items, Shared};
 use pm_ops::{OutOfMemory, Text};
@@ -125,18 +124,6 @@ fn stands_twice(name: &Text, names: &[Text]) -> bool
     for i in 0..names.len() {
         if name.bytes() == names[i].bytes() {
             return is_among(name, &names[i + 1..]);
-        }
-    }
-    false
-}
-
-/// Whether a name is one of these.
-pub fn is_among(name: &Text, names: &[Text]) -> bool
-    ensures { result ≡ list_any (bytes_eq name.now) names.now }
-{
-    for other in names {
-        if name.bytes() == other.bytes() {
-            return true;
         }
     }
     false

@@ -1,7 +1,7 @@
 //! What keeps a row or a case from being inlined.
 ghost use Rattle.std.specs.Prelude.{◌≡◌, length, map, IfOk};
 ghost use Rattle.pattern_uses.specs.Counts.{operations};
-ghost use Rattle.pred_inline.specs.Faults.{limit_fault, many_fault, operations_fault};
+ghost use Rattle.pred_inline.specs.Faults.{captures_fault, limit_fault, many_fault, operations_fault};
 ghost use Rattle.pred_inline.specs.Inlined.{cases_named, choices};
 
 use crate::case::Predicate;
@@ -15,11 +15,12 @@ use std::alloc::Global;
 const ROWS: u64 = 65_536;
 
 /// How many captures a row may have, and how many operations its pattern.
-const CAPTURES: u64 = 32;
+const CAPTURES: usize = 32;
 
 const OPERATIONS: u64 = 32;
 
 /// Too many choices of a case of each of these predicates, at the `(` of the form.
+#[tactic(auto, using(crate::proofs::Limits::few, crate::proofs::Limits::many))]
 pub fn many_fault(at: usize, preds: &[Predicate], names: &[Text]) -> Option<PatternFault>
     ensures { result ≡
         many_fault at (length (choices (map (cases_named preds.now) names.now))) }
@@ -42,16 +43,27 @@ pub fn limit_fault(
 ) -> Result<Option<PatternFault>, OutOfMemory>
     ensures { IfOk result (λ fault. fault ≡ limit_fault at pattern.now) }
 {
-    if capture_count(alloc, pattern)? > CAPTURES {
-        return Ok(Some(PatternFault {
-            kind: PatternKind::TooManyCaptures,
-            at,
-            len: 1,
-        }));
+    match captures_fault(at, capture_count(alloc, pattern)?) {
+        Some(fault) => Ok(Some(fault)),
+        None => Ok(operations_fault(at, pattern)),
     }
-    Ok(operations_fault(at, pattern))
 }
 
+#[tactic(auto, using(crate::proofs::Limits::few, crate::proofs::Limits::many))]
+fn captures_fault(at: usize, count: usize) -> Option<PatternFault>
+    ensures { result ≡ captures_fault at count }
+{
+    if count <= CAPTURES {
+        return None;
+    }
+    Some(PatternFault {
+        kind: PatternKind::TooManyCaptures,
+        at,
+        len: 1,
+    })
+}
+
+#[tactic(auto, using(crate::proofs::Limits::few, crate::proofs::Limits::many))]
 fn operations_fault(at: usize, pattern: &Pat) -> Option<PatternFault>
     ensures { result ≡ operations_fault at (operations pattern.now) }
 {

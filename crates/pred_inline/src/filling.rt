@@ -5,10 +5,10 @@ ghost use Rattle.pattern_uses.specs.Captures.{capture_of};
 ghost use Rattle.pred_inline.specs.Filled.{all_filled, all_holes, case_filled, filling, hole_filled};
 ghost use Rattle.pred_inline.specs.Filled.{in_place, node_filling, standing};
 
-use crate::arguments::{argument_for, is_among, moved, occurs_again};
+use crate::arguments::{argument_for, moved, occurs_again};
 use crate::case::Case;
 use capture_renaming::{Renaming, cap_with, maybe_cap_with};
-use pattern_uses::{capture_of, captured};
+use pattern_uses::{capture_of, captured, is_among};
 use pd_ast::{Cap, Pat, PatNode};
 use pm_items::{Items, Shared};
 use pm_ops::{OutOfMemory, Text};

@@ -74,12 +74,7 @@ fn row_by(
 ) -> Result<Row, OutOfMemory>
     ensures { IfOk result (λ made. made ≡ row_by row.now conditions cases.now) }
 {
-    let open = begun(
-        alloc,
-        row.pattern.get(),
-        Items::new(alloc),
-        Items::new(alloc),
-    )?;
+    let open = begun(alloc, &row.pattern, Items::new(alloc), Items::new(alloc))?;
     row_finished(alloc, row, conditions, all_inlined(alloc, cases, open)?)
 }
 
@@ -135,7 +130,7 @@ fn case_by(
 {
     let params = copied_names(alloc, case.params.as_slice())?;
     let same = copied_pairs(alloc, case.same.as_slice())?;
-    let open = begun(alloc, case.row.pattern.get(), params, same)?;
+    let open = begun(alloc, &case.row.pattern, params, same)?;
     case_finished(alloc, case, conditions, all_inlined(alloc, cases, open)?)
 }
 
@@ -155,17 +150,17 @@ fn copied_pairs(alloc: Global, pairs: &[Pair]) -> Result<Items<Pair>, OutOfMemor
 /// A row whose uses are taken out.
 fn begun(
     alloc: Global,
-    pattern: &Pat,
+    pattern: &Shared<Pat>,
     params: Items<Text>,
     same: Items<Pair>,
 ) -> Result<Opened, OutOfMemory>
     ensures { IfOk result (λ made. made ≡ begun pattern.now params same) }
 {
-    let names = used_predicates(alloc, pattern)?;
+    let names = used_predicates(alloc, pattern.get())?;
     let names = labels(alloc, names.as_slice())?;
     let out = taken(alloc, pattern, names.as_slice())?;
     Ok(Opened {
-        pattern: Shared::new(alloc, out.pattern)?,
+        pattern: out.pattern,
         args: Items::new(alloc),
         waiting: out.uses,
         tails: Items::new(alloc),

@@ -4,13 +4,13 @@ ghost use Rattle.pred_inline.specs.OneUse.{case_placed, name_of, one_inlined, pl
 ghost use Rattle.pred_inline.specs.OneUse.{placed_with, stay_two, taken_up, use_capture, use_placed};
 ghost use Rattle.pred_inline.specs.OneUse.{with_pair};
 
-use crate::arguments::{is_among, naming, pointed};
+use crate::arguments::{naming, pointed};
 use crate::case::{Case, Pair};
 use crate::filling::case_filled;
 use crate::opened::{Opened, united};
 use crate::uniting::pairs_united;
 use capture_renaming::{Renaming, tail_with};
-use pattern_uses::{asks_subject, cap_at, capture_of, captured, put_at};
+use pattern_uses::{asks_subject, cap_at, capture_of, captured, is_among, put_at};
 use pd_ast::{Cap, Pat, Tail};
 use pm_items::{Items, Shared};
 use pm_ops::{OutOfMemory, Text};
