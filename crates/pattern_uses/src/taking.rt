@@ -192,9 +192,9 @@ fn cap_among(
 #[cycle(put_at)]
 pub fn put_at(
     alloc: Global,
+    pattern: &Shared<Pat>,
     label: &Text,
     new: &Shared<Pat>,
-    pattern: &Shared<Pat>,
 ) -> Result<Shared<Pat>, OutOfMemory>
     ensures { IfOk result (λ made. made ≡ put_at label.now new.now pattern.now) }
 {
@@ -204,12 +204,12 @@ pub fn put_at(
             if name.bytes() == label.bytes() {
                 return Ok(new.share()?);
             }
-            let args = put_among(alloc, label, new, args.as_slice())?;
+            let args = put_among(alloc, args.as_slice(), label, new)?;
             let made = Pat::Call(name.copy(alloc)?, args, copied_cap(alloc, cap)?);
             Ok(Shared::new(alloc, made)?)
         }
         Pat::Node(node) => {
-            let made = put_at_in_node(alloc, label, new, node)?;
+            let made = put_at_in_node(alloc, node, label, new)?;
             Ok(Shared::new(alloc, Pat::Node(made))?)
         }
     }
@@ -218,9 +218,9 @@ pub fn put_at(
 #[cycle(put_at)]
 fn put_at_in_node(
     alloc: Global,
+    node: &PatNode,
     label: &Text,
     new: &Shared<Pat>,
-    node: &PatNode,
 ) -> Result<PatNode, OutOfMemory>
     ensures { IfOk result (λ made. made ≡ put_at_in_node label.now new.now node.now) }
 {
@@ -228,7 +228,7 @@ fn put_at_in_node(
         op: node.op.copy(alloc)?,
         flags: node.flags,
         cap: copied_cap(alloc, &node.cap)?,
-        args: put_among(alloc, label, new, node.args.as_slice())?,
+        args: put_among(alloc, node.args.as_slice(), label, new)?,
         at: node.at,
         len: node.len,
     })
@@ -237,15 +237,15 @@ fn put_at_in_node(
 #[cycle(put_at)]
 fn put_among(
     alloc: Global,
+    patterns: &[Shared<Pat>],
     label: &Text,
     new: &Shared<Pat>,
-    patterns: &[Shared<Pat>],
 ) -> Result<Items<Shared<Pat>>, OutOfMemory>
     ensures { IfOk result (λ made. made ≡ map (put_at label.now new.now) patterns.now) }
 {
     let mut made = Items::new(alloc);
     for pattern in patterns {
-        made.push(put_at(alloc, label, new, pattern)?)?;
+        made.push(put_at(alloc, pattern, label, new)?)?;
     }
     Ok(made)
 }

@@ -24,17 +24,17 @@ pub fn case_filled(
     ensures { IfOk result (λ made. made ≡ case_filled by.now case.now args.now) }
 {
     let mut before = Items::new(alloc);
-    filled(alloc, by, case, args, case.row.pattern.get(), &mut before)
+    filled(alloc, case.row.pattern.get(), by, case, args, &mut before)
 }
 
 /// A pattern behind captures alone of these names, to which its own are added.
 #[cycle(filling)]
 fn filled(
     alloc: Global,
+    pattern: &Pat,
     by: &Renaming,
     case: &Case,
     args: &[Shared<Pat>],
-    pattern: &Pat,
     before: &mut Items<Text>,
 ) -> Result<Shared<Pat>, OutOfMemory>
     ensures holes { OnOk result (before.new ≡
@@ -53,12 +53,12 @@ fn filled(
             Ok(Shared::new(alloc, made)?)
         }
         Pat::Call(name, inner, cap) => {
-            let inner = all_filled(alloc, by, case, args, inner.as_slice(), before)?;
+            let inner = all_filled(alloc, inner.as_slice(), by, case, args, before)?;
             let made = Pat::Call(name.copy(alloc)?, inner, maybe_cap_with(alloc, by, cap)?);
             Ok(Shared::new(alloc, made)?)
         }
         Pat::Node(node) => {
-            let made = Pat::Node(node_filled(alloc, by, case, args, node, before)?);
+            let made = Pat::Node(node_filled(alloc, node, by, case, args, before)?);
             Ok(Shared::new(alloc, made)?)
         }
     }
@@ -67,10 +67,10 @@ fn filled(
 #[cycle(filling)]
 fn node_filled(
     alloc: Global,
+    node: &PatNode,
     by: &Renaming,
     case: &Case,
     args: &[Shared<Pat>],
-    node: &PatNode,
     before: &mut Items<Text>,
 ) -> Result<PatNode, OutOfMemory>
     ensures holes { OnOk result (before.new ≡
@@ -78,7 +78,7 @@ fn node_filled(
     ensures node { IfOk result (λ made. made ≡
         (node_filling by.now case.now args.now node.now).filled before.old) }
 {
-    let inner = all_filled(alloc, by, case, args, node.args.as_slice(), before)?;
+    let inner = all_filled(alloc, node.args.as_slice(), by, case, args, before)?;
     Ok(PatNode {
         op: node.op.copy(alloc)?,
         flags: node.flags,
@@ -92,10 +92,10 @@ fn node_filled(
 #[cycle(filling)]
 fn all_filled(
     alloc: Global,
+    patterns: &[Shared<Pat>],
     by: &Renaming,
     case: &Case,
     args: &[Shared<Pat>],
-    patterns: &[Shared<Pat>],
     before: &mut Items<Text>,
 ) -> Result<Items<Shared<Pat>>, OutOfMemory>
     ensures holes { OnOk result (before.new ≡
@@ -105,7 +105,7 @@ fn all_filled(
 {
     let mut made = Items::new(alloc);
     for pattern in patterns {
-        made.push(filled(alloc, by, case, args, pattern.get(), before)?)?;
+        made.push(filled(alloc, pattern.get(), by, case, args, before)?)?;
     }
     Ok(made)
 }

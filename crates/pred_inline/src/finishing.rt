@@ -25,7 +25,7 @@ pub fn row_finished(
     let gives = result_changed(alloc, done.changes.as_slice(), &row.result)?;
     Ok(Row {
         at: row.at,
-        result: inside(alloc, conditions, done.tails.as_slice(), &gives)?,
+        result: inside(alloc, conditions, &gives, done.tails.as_slice())?,
         pattern: done.pattern,
     })
 }
@@ -40,7 +40,7 @@ pub fn case_finished(
     ensures { IfOk result (λ made. made ≡ case_finished case.now conditions done) }
 {
     let last = tail_changed(alloc, done.changes.as_slice(), &case.row.tail)?;
-    let tail = behind(alloc, conditions, done.tails.as_slice(), &last)?;
+    let tail = behind(alloc, conditions, &last, done.tails.as_slice())?;
     Ok(Case {
         params: done.params,
         same: done.same,
@@ -88,8 +88,8 @@ fn tail_changed(
 fn inside(
     alloc: Global,
     conditions: usize,
-    tails: &[Shared<Tail>],
     gives: &Shared<Out>,
+    tails: &[Shared<Tail>],
 ) -> Result<Shared<Out>, OutOfMemory>
     ensures { IfOk result (λ made. made ≡ inside conditions tails.now gives.now) }
 {
@@ -98,7 +98,7 @@ fn inside(
     }
     match gives.get() {
         Out::If(when, inner, None) => {
-            let inner = inside(alloc, conditions - 1, tails, inner)?;
+            let inner = inside(alloc, conditions - 1, inner, tails)?;
             Ok(Shared::new(alloc, Out::If(when.copy(alloc)?, inner, None))?)
         }
         Out::If(_, _, Some(_)) | Out::Hole(_) | Out::Brace(_) => all_round(alloc, tails, gives),
@@ -145,8 +145,8 @@ fn round(alloc: Global, rest: &Tail, gives: Shared<Out>) -> Result<Shared<Out>, 
 fn behind(
     alloc: Global,
     conditions: usize,
-    tails: &[Shared<Tail>],
     last: &Shared<Tail>,
+    tails: &[Shared<Tail>],
 ) -> Result<Shared<Tail>, OutOfMemory>
     ensures { IfOk result (λ made. made ≡ behind conditions tails.now last.now) }
 {
@@ -155,7 +155,7 @@ fn behind(
     }
     match last.get() {
         Tail::If(when, rest) => {
-            let rest = behind(alloc, conditions - 1, tails, rest)?;
+            let rest = behind(alloc, conditions - 1, rest, tails)?;
             Ok(Shared::new(alloc, Tail::If(when.copy(alloc)?, rest))?)
         }
         Tail::Done | Tail::With(_, _) => all_before(alloc, tails, last),

@@ -200,7 +200,7 @@ fn placed(
     let mut tails = row.tails;
     tails.push(tail)?;
     Ok(Opened {
-        pattern: put_at(alloc, label, new, &row.pattern)?,
+        pattern: put_at(alloc, &row.pattern, label, new)?,
         args: Items::new(alloc),
         waiting: row.waiting,
         tails,
