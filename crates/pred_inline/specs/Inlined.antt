@@ -16,7 +16,7 @@ use Rattle.pd_ast.specs.declared.result.Tail.TheOpen as open-tail
 use Rattle.pd_ast.specs.declared.result.Tail.TheVariants as made-tail
 use Rattle.capture_renaming.specs.Trees.{result_with, tail_with}
 use Rattle.capture_renaming.specs.declared.renaming.Renamed.{Renamed}
-use Rattle.pattern_uses.specs.Uses.{label, labels, taken, used_predicates}
+use Rattle.pattern_uses.specs.Uses.{labels, taken, used_predicates}
 use Rattle.pred_inline.specs.OneUse.{one_inlined}
 use Rattle.pred_inline.specs.Opened.{only}
 use Rattle.pred_inline.specs.declared.case.Case.{Case}
@@ -38,7 +38,7 @@ begun pattern params same =
     record {
       pattern = out.pattern;
       args = [];
-      waiting = out.uses;
+      uses = out.uses;
       tails = [];
       changes = [];
       params = params;
@@ -48,7 +48,7 @@ begun pattern params same =
 -- the uses from the i-th on inlined, one after the other
 abbrev pub all_inlined : ℕ → List Case → Opened → Opened
 all_inlined i [] row = row
-all_inlined i (case ∷ cases) row = all_inlined (i + 1) cases (one_inlined (label i) case row)
+all_inlined i (case ∷ cases) row = all_inlined (i + 1) cases (one_inlined i case row)
 
 -- the end of a case round a result, and before another end
 abbrev pub round_layer : Tail-F (Out → Out) → Out → Out

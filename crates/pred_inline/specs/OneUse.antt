@@ -1,5 +1,5 @@
 -- One use of a predicate inlined by one case of it.
-use Rattle.std.specs.Prelude.{◌&&◌, not, Bool, false, if◌then◌else◌, List, [], ◌∷◌, ◌++◌, Option, Some, None, option_map}
+use Rattle.std.specs.Prelude.{ℕ, ◌&&◌, not, slice_get, Bool, false, if◌then◌else◌, List, [], ◌∷◌, ◌++◌, Option, Some, None, option_map}
 use Rattle.std.specs.List.{list_any}
 use Rattle.std.specs.Str.{bytes_eq}
 use Rattle.pm_ops.specs.Names.{Name}
@@ -10,33 +10,21 @@ use Rattle.capture_renaming.specs.Trees.{tail_with}
 use Rattle.capture_renaming.specs.declared.renaming.Renaming.{Renaming}
 use Rattle.pattern_uses.specs.Captures.{capture_of, captured}
 use Rattle.pattern_uses.specs.Mentions.{asks_subject}
-use Rattle.pattern_uses.specs.Uses.{cap_at, put_at}
+use Rattle.pattern_uses.specs.Uses.{cap_at, label, put_at}
 use Rattle.pred_inline.specs.Arguments.{naming, pointed}
 use Rattle.pred_inline.specs.Filled.{case_filled}
-use Rattle.pred_inline.specs.Opened.{pairs_united, united}
+use Rattle.pred_inline.specs.Opened.{pairs_united, united, with_args}
 use Rattle.pred_inline.specs.declared.case.Case.{Case}
 use Rattle.pred_inline.specs.declared.case.Pair.{Pair}
 use Rattle.pred_inline.specs.declared.opened.Opened.{Opened}
 
--- the next use that waits is taken up
-abbrev pub head_args : List (List Pat) → List Pat
-head_args [] = []
-head_args (args ∷ rest) = args
+-- the use with so many before it is taken up: its arguments
+abbrev pub args_of : Option (List Pat) → List Pat
+args_of None = []
+args_of (Some args) = args
 
-abbrev pub tail_args : List (List Pat) → List (List Pat)
-tail_args [] = []
-tail_args (args ∷ rest) = rest
-
-abbrev pub taken_up : Opened → Opened
-taken_up row = record {
-  pattern = row.pattern;
-  args = head_args row.waiting;
-  waiting = tail_args row.waiting;
-  tails = row.tails;
-  changes = row.changes;
-  params = row.params;
-  same = row.same;
-}
+abbrev pub taken_up : ℕ → Opened → Opened
+taken_up i row = with_args (args_of (slice_get row.uses i)) row
 
 -- the capture of the use, which gets `j.` where it has none and the case asks about `t` or `type`
 abbrev pub use_capture : Name → Tail → Option Cap → Option Cap
@@ -57,7 +45,7 @@ abbrev pub placed : Name → Pat → Tail → Opened → Opened
 placed own new rest row = record {
   pattern = put_at own new row.pattern;
   args = [];
-  waiting = row.waiting;
+  uses = row.uses;
   tails = row.tails ++ rest ∷ [];
   changes = row.changes;
   params = row.params;
@@ -68,7 +56,7 @@ abbrev pub with_pair : Name → Name → Opened → Opened
 with_pair first second row = record {
   pattern = row.pattern;
   args = row.args;
-  waiting = row.waiting;
+  uses = row.uses;
   tails = row.tails;
   changes = row.changes;
   params = row.params;
@@ -97,7 +85,8 @@ case_placed own by case cap row =
 abbrev pub use_placed : Name → Case → Option Cap → Opened → Opened
 use_placed own case cap row = case_placed own (naming own case row.args (name_of cap)) case cap row
 
-abbrev pub one_inlined : Name → Case → Opened → Opened
-one_inlined own case row =
-    let one = pairs_united case.params case.same (taken_up row) in
+abbrev pub one_inlined : ℕ → Case → Opened → Opened
+one_inlined i case row =
+    let one = pairs_united case.params case.same (taken_up i row) in
+    let own = label i in
     use_placed own case (use_capture own case.row.tail (cap_at own one.pattern)) one

@@ -24,13 +24,13 @@ abbrev pub pair_with : Renaming → Pair → Pair
 pair_with by pair =
     record { first = name_with by pair.first; second = name_with by pair.second }
 
--- the whole row with the change made, the arguments of the uses that wait included; the result or end
+-- the whole row with the change made, the arguments of its uses included; the result or end
 -- of the row has it to come
 abbrev pub changed : Renamed → Opened → Opened
 changed one row = record {
   pattern = pattern_with (only one) row.pattern;
   args = map (pattern_with (only one)) row.args;
-  waiting = map (map (pattern_with (only one))) row.waiting;
+  uses = map (map (pattern_with (only one))) row.uses;
   tails = map (tail_with (only one)) row.tails;
   changes = row.changes ++ one ∷ [];
   params = map (name_with (only one)) row.params;
@@ -46,7 +46,7 @@ abbrev pub with_args : List Pat → Opened → Opened
 with_args args row = record {
   pattern = row.pattern;
   args = args;
-  waiting = row.waiting;
+  uses = row.uses;
   tails = row.tails;
   changes = row.changes;
   params = row.params;

@@ -13,7 +13,7 @@ use crate::faults::{limit_fault, many_fault};
 use crate::finishing::{case_finished, row_finished};
 use crate::one_use::one_inlined;
 use crate::opened::Opened;
-use pattern_uses::{copied_names, label, labels, taken, used_predicates};
+use pattern_uses::{copied_names, labels, taken, used_predicates};
 use pd_ast::{Pat, Row};
 use pm_items::{Items, Shared};
 use pm_ops::{OutOfMemory, PatternFault, Text};
@@ -162,7 +162,7 @@ fn begun(
     Ok(Opened {
         pattern: out.pattern,
         args: Items::new(alloc),
-        waiting: out.uses,
+        uses: out.uses,
         tails: Items::new(alloc),
         changes: Items::new(alloc),
         params,
@@ -176,8 +176,7 @@ fn all_inlined(alloc: Global, cases: &[Shared<Case>], row: Opened) -> Result<Ope
 {
     let mut made = row;
     for i in 0..cases.len() {
-        let own = label(alloc, i)?;
-        made = one_inlined(alloc, &own, cases[i].get(), made)?;
+        made = one_inlined(alloc, i, cases[i].get(), made)?;
     }
     Ok(made)
 }

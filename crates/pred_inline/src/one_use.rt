@@ -1,8 +1,9 @@
 //! One use of a predicate inlined by one case of it.
 ghost use Rattle.std.specs.Prelude.{◌≡◌, IfOk};
-ghost use Rattle.pred_inline.specs.OneUse.{case_placed, name_of, one_inlined, placed, placed_twice};
-ghost use Rattle.pred_inline.specs.OneUse.{placed_with, stay_two, taken_up, use_capture, use_placed};
-ghost use Rattle.pred_inline.specs.OneUse.{with_pair};
+ghost use Rattle.std.specs.Option.{option_copied};
+ghost use Rattle.pred_inline.specs.OneUse.{args_of, case_placed, name_of, one_inlined, placed};
+ghost use Rattle.pred_inline.specs.OneUse.{placed_twice, placed_with, stay_two, taken_up, use_capture};
+ghost use Rattle.pred_inline.specs.OneUse.{use_placed, with_pair};
 
 use crate::arguments::{naming, pointed};
 use crate::case::{Case, Pair};
@@ -10,47 +11,52 @@ use crate::filling::case_filled;
 use crate::opened::{Opened, united};
 use crate::uniting::pairs_united;
 use capture_renaming::{Renaming, tail_with};
-use pattern_uses::{asks_subject, cap_at, capture_of, captured, is_among, put_at};
+use pattern_uses::{
+    asks_subject, cap_at, capture_of, captured, is_among, label, put_at, shared_patterns,
+};
 use pd_ast::{Cap, Pat, Tail};
 use pm_items::{Items, Shared};
 use pm_ops::{OutOfMemory, Text};
 use std::alloc::Global;
 
-/// The row with the next use inlined, whose label this is, by a case of its predicate.
-pub fn one_inlined(
-    alloc: Global,
-    label: &Text,
-    case: &Case,
-    row: Opened,
-) -> Result<Opened, OutOfMemory>
-    ensures { IfOk result (λ made. made ≡ one_inlined label.now case.now row) }
+/// The row with the use inlined that has so many before it, by a case of its predicate.
+pub fn one_inlined(alloc: Global, i: usize, case: &Case, row: Opened) -> Result<Opened, OutOfMemory>
+    ensures { IfOk result (λ made. made ≡ one_inlined i case.now row) }
 {
-    let row = taken_up(alloc, row)?;
+    let row = taken_up(alloc, i, row)?;
     let row = pairs_united(alloc, case.params.as_slice(), case.same.as_slice(), row)?;
-    let cap = cap_at(alloc, label, row.pattern.get())?;
-    let cap = use_capture(alloc, label, case.row.tail.get(), cap)?;
-    use_placed(alloc, label, case, cap, row)
+    let own = label(alloc, i)?;
+    let cap = cap_at(alloc, &own, row.pattern.get())?;
+    let cap = use_capture(alloc, &own, case.row.tail.get(), cap)?;
+    use_placed(alloc, &own, case, cap, row)
 }
 
-/// The next use that waits is taken up.
-fn taken_up(alloc: Global, row: Opened) -> Result<Opened, OutOfMemory>
-    ensures { IfOk result (λ made. made ≡ taken_up row) }
+/// The use is taken up: its arguments.
+fn taken_up(alloc: Global, i: usize, row: Opened) -> Result<Opened, OutOfMemory>
+    ensures { IfOk result (λ made. made ≡ taken_up i row) }
 {
-    let mut waiting = row.waiting;
-    let args = if waiting.is_empty() {
-        Items::new(alloc)
-    } else {
-        waiting.remove(0)
-    };
+    let args = args_of(alloc, row.uses.get(i))?;
     Ok(Opened {
         pattern: row.pattern,
         args,
-        waiting,
+        uses: row.uses,
         tails: row.tails,
         changes: row.changes,
         params: row.params,
         same: row.same,
     })
+}
+
+fn args_of(
+    alloc: Global,
+    args: Option<&Items<Shared<Pat>>>,
+) -> Result<Items<Shared<Pat>>, OutOfMemory>
+    ensures { IfOk result (λ made. made ≡ args_of (option_copied args.entry)) }
+{
+    match args {
+        Some(args) => shared_patterns(alloc, args.as_slice()),
+        None => Ok(Items::new(alloc)),
+    }
 }
 
 /// The capture of the use, which it gets where the end of the case asks about `t` or `type`.
@@ -179,7 +185,7 @@ fn with_pair(alloc: Global, first: &Text, second: &Text, row: Opened) -> Result<
     Ok(Opened {
         pattern: row.pattern,
         args: row.args,
-        waiting: row.waiting,
+        uses: row.uses,
         tails: row.tails,
         changes: row.changes,
         params: row.params,
@@ -202,7 +208,7 @@ fn placed(
     Ok(Opened {
         pattern: put_at(alloc, &row.pattern, label, new)?,
         args: Items::new(alloc),
-        waiting: row.waiting,
+        uses: row.uses,
         tails,
         changes: row.changes,
         params: row.params,

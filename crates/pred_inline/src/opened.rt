@@ -17,8 +17,8 @@ pub struct Opened {
     pub pattern: Shared<Pat>,
     /// The arguments of the use that is inlined.
     pub args: Items<Shared<Pat>>,
-    /// Those of the uses that wait, in preorder.
-    pub waiting: Items<Items<Shared<Pat>>>,
+    /// Those of all uses, in preorder.
+    pub uses: Items<Items<Shared<Pat>>>,
     /// The ends of the cases so far, in the order of their uses.
     pub tails: Items<Shared<Tail>>,
     /// What is still to be changed in the result or the end of the row.
@@ -83,7 +83,7 @@ fn changed(alloc: Global, one: Renamed, row: Opened) -> Result<Opened, OutOfMemo
     Ok(Opened {
         pattern: Shared::new(alloc, pattern)?,
         args: patterns_with(alloc, &by, row.args.as_slice())?,
-        waiting: waiting_with(alloc, &by, row.waiting.as_slice())?,
+        uses: uses_with(alloc, &by, row.uses.as_slice())?,
         tails: tails_with(alloc, &by, row.tails.as_slice())?,
         changes,
         params: names_with(alloc, &by, row.params.as_slice())?,
@@ -106,15 +106,15 @@ fn patterns_with(
     Ok(made)
 }
 
-fn waiting_with(
+fn uses_with(
     alloc: Global,
     by: &Renaming,
-    waiting: &[Items<Shared<Pat>>],
+    uses: &[Items<Shared<Pat>>],
 ) -> Result<Items<Items<Shared<Pat>>>, OutOfMemory>
-    ensures { IfOk result (λ made. made ≡ map (map (pattern_with by.now)) waiting.now) }
+    ensures { IfOk result (λ made. made ≡ map (map (pattern_with by.now)) uses.now) }
 {
     let mut made = Items::new(alloc);
-    for args in waiting {
+    for args in uses {
         made.push(patterns_with(alloc, by, args.as_slice())?)?;
     }
     Ok(made)

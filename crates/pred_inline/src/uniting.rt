@@ -81,7 +81,7 @@ fn arg_united(
             Ok(Opened {
                 pattern: row.pattern,
                 args,
-                waiting: row.waiting,
+                uses: row.uses,
                 tails: row.tails,
                 changes: row.changes,
                 params: row.params,
@@ -92,6 +92,7 @@ fn arg_united(
 }
 
 /// This argument in the place of the one for a parameter.
+#[tactic(auto, using(std::proofs::lemmas::List::set_past))]
 fn with_argument(
     alloc: Global,
     params: &[Text],
