@@ -134,13 +134,15 @@ fn placed_with(
 ) -> Result<Opened, OutOfMemory>
     ensures { IfOk result (λ made. made ≡ placed_with label.now new tail cap inner row) }
 {
-    match (cap, inner) {
-        (None, _) => placed(alloc, label, &new, tail, row),
-        (Some(cap), None) => {
-            let new = Shared::new(alloc, captured(alloc, &cap, new.get())?)?;
-            placed(alloc, label, &new, tail, row)
-        }
-        (Some(cap), Some(inner)) => placed_twice(alloc, label, new, tail, &cap, &inner, row),
+    match cap {
+        None => placed(alloc, label, &new, tail, row),
+        Some(cap) => match inner {
+            None => {
+                let new = Shared::new(alloc, captured(alloc, &cap, new.get())?)?;
+                placed(alloc, label, &new, tail, row)
+            }
+            Some(inner) => placed_twice(alloc, label, new, tail, &cap, &inner, row),
+        },
     }
 }
 

@@ -1,5 +1,6 @@
 //! Arguments of one use that become one.
 ghost use Rattle.std.specs.Prelude.{◌≡◌, slice_set, IfOk};
+ghost use Rattle.std.specs.Option.{option_copied};
 ghost use Rattle.pattern_uses.specs.Captures.{capture_of};
 ghost use Rattle.pred_inline.specs.Arguments.{place_of};
 ghost use Rattle.pred_inline.specs.Opened.{arg_united, args_united, pair_united, pairs_united};
@@ -39,11 +40,18 @@ fn pair_united(
 {
     let second = argument_for(params, row.args.as_slice(), &pair.second);
     let cap = capture_of_argument(alloc, second)?;
-    let arg = match argument_for(params, row.args.as_slice(), &pair.first) {
-        Some(arg) => Some(arg.share()?),
-        None => None,
-    };
+    let arg = shared_argument(argument_for(params, row.args.as_slice(), &pair.first))?;
     args_united(alloc, params, &pair.first, arg, cap, row)
+}
+
+/// The same argument, shared.
+fn shared_argument(arg: Option<&Shared<Pat>>) -> Result<Option<Shared<Pat>>, OutOfMemory>
+    ensures { IfOk result (λ made. made ≡ option_copied arg.entry) }
+{
+    match arg {
+        Some(arg) => Ok(Some(arg.share()?)),
+        None => Ok(None),
+    }
 }
 
 fn args_united(
@@ -56,9 +64,12 @@ fn args_united(
 ) -> Result<Opened, OutOfMemory>
     ensures { IfOk result (λ made. made ≡ args_united params.now name.now arg cap row) }
 {
-    match (arg, cap) {
-        (Some(arg), Some(cap)) => arg_united(alloc, params, name, arg.get(), &cap, row),
-        _ => Ok(row),
+    match arg {
+        None => Ok(row),
+        Some(arg) => match cap {
+            None => Ok(row),
+            Some(cap) => arg_united(alloc, params, name, arg.get(), &cap, row),
+        },
     }
 }
 
