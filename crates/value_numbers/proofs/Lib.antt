@@ -4,3 +4,6 @@ pub mod MergedFunctions
 pub mod OneAnswer
 pub mod TableLemmas
 pub mod RowsAfterMerge
+pub mod OneBlock
+pub mod EntryMerges
+pub mod EntryTable

@@ -48,7 +48,7 @@ spots_count : (n : ℕ) (stmts : List Stmt) → length (spots_in n stmts) ≡ le
 spots_count n [] = refl
 spots_count n (stmt ∷ stmts) = ap suc (spots_count n stmts)
 
-in_block : (f : Function) (p k : ℕ) (home : Block) → slice_get f.blocks p ≡ Some home → spot_at f (record { block = p; stmt = k }) ≡ slice_get (spots_of_block home) k
+pub in_block : (f : Function) (p k : ℕ) (home : Block) → slice_get f.blocks p ≡ Some home → spot_at f (record { block = p; stmt = k }) ≡ slice_get (spots_of_block home) k
 in_block f p k home at = ap (option_and_then (λ (block : Block). spot_in block k)) at ∙ in_list home.number home.stmts k
 
 pub one_place_more : (f : Function) (p k : ℕ) (home : Block) (places : List Place) (old : List (Option Spot)) → slice_get f.blocks p ≡ Some home → k < length home.stmts →

@@ -1,6 +1,6 @@
 -- The table of right sides, filled place by place.
-use Rattle.std.proofs.Common.{◌≡◌, ◌≢◌, ℕ, zero, suc, ◌<◌, Bool, true, false, cond, eqb, Some, None, List, [], ◌∷◌, ◌++◌, map, filter, length, get_or, set, refl, sym, ap, subst, ◌∙◌}
-use Rattle.std.proofs.lemmas.Bool.{eq-eqb, eqb-true, both_ways}
+use Rattle.std.proofs.Common.{◌≡◌, ◌≢◌, ℕ, zero, suc, ◌+◌, ◌<◌, ◌≤◌, Bool, true, false, cond, eqb, Some, None, List, [], ◌∷◌, ◌++◌, map, filter, length, get_or, set, refl, sym, ap, subst, ◌∙◌, ⊎_elim, arith}
+use Rattle.std.proofs.lemmas.Bool.{eq-eqb, eqb-true, both_ways, cases_lt}
 use Rattle.std.proofs.lemmas.List.{map-append, get_or-set_same, get_or-set_other, append-nil, length-set}
 use Rattle.std.proofs.lemmas.List.Elements.{filter-append}
 use Rattle.gim_ast.specs.declared.function.Function.{Function}
@@ -58,3 +58,21 @@ empty_pushed [] none zero = refl
 empty_pushed [] none (suc b) = refl
 empty_pushed (x ∷ buckets) none zero = none zero
 empty_pushed (x ∷ buckets) none (suc b) = empty_pushed buckets (λ k. none (suc k)) b
+
+-- ---- buckets that are emptied one by one
+
+pub one_more_empty : (buckets new : List (List Place)) (i : ℕ) → i < length buckets → new ≡ set buckets i [] → ((b : ℕ) → b < i → get_or buckets b [] ≡ []) →
+    (b : ℕ) → b < i + 1 → get_or new b [] ≡ []
+one_more_empty buckets new i within is so_far b below = subst (λ l. get_or l b [] ≡ []) (sym is) (⊎_elim
+    (λ before. get_or-set_other buckets i b [] [] (λ (same : b ≡ i). omega (arith, same, before)) ∙ so_far b before)
+    (λ behind. let same : i ≡ b = omega (arith, below, behind) in subst (λ n. get_or (set buckets i []) n [] ≡ []) same (get_or-set_same buckets i [] [] within))
+    (cases_lt b i))
+
+pub all_empty : (buckets : List (List Place)) (i : ℕ) → length buckets ≤ i → ((b : ℕ) → b < i → get_or buckets b [] ≡ []) → (b : ℕ) → get_or buckets b [] ≡ []
+all_empty buckets i all so_far b = ⊎_elim (so_far b) (λ past. empty_past buckets b (omega (arith, all, past))) (cases_lt b i)
+  where
+    empty_past : (xs : List (List Place)) (n : ℕ) → length xs ≤ n → get_or xs n [] ≡ []
+    empty_past [] zero past = refl
+    empty_past [] (suc n) past = refl
+    empty_past (x ∷ xs) zero past = absurd (omega (arith, past))
+    empty_past (x ∷ xs) (suc n) past = empty_past xs n (omega (arith, past))

@@ -36,7 +36,7 @@ weaker P Q tells (x ∷ xs) all = (tells x all.0, weaker P Q tells xs all.1)
 
 -- ---- statements and their names
 
-drop_at : {X : Type 0} (xs : List X) (k : ℕ) (x : X) → slice_get xs k ≡ Some x → (rest : List X) × (drop k xs ≡ x ∷ rest)
+pub drop_at : {X : Type 0} (xs : List X) (k : ℕ) (x : X) → slice_get xs k ≡ Some x → (rest : List X) × (drop k xs ≡ x ∷ rest)
 drop_at [] k x is = absurd (none-some x is)
 drop_at (y ∷ xs) zero x is = (xs, ap (λ z. z ∷ xs) (same_Some y x is))
 drop_at (y ∷ xs) (suc k) x is = drop_at xs k x is

@@ -1,9 +1,11 @@
 -- How the least name that may be taken is found.
-use Rattle.std.specs.Prelude.{◌≡◌, ℕ, ◌≤◌, Option, List, MatchOption}
+use Rattle.std.specs.Prelude.{◌≡◌, ℕ, ◌≤◌, Option, List, MatchOption, IfSome}
 use Rattle.std.specs.List.{AllByRecursion}
 use Rattle.gim_ast.specs.declared.function.Function.{Function}
 use Rattle.gim_ast.specs.declared.function.Stmt.{Stmt}
 use Rattle.gim_ast.specs.Runs.{name_type}
+use Rattle.gim_ssa.specs.Readability.{IsReadingOf}
+use Rattle.gim_ssa.specs.declared.readability.Reading.{Reading}
 use Rattle.value_numbers.specs.Merges.{MayTake}
 use Rattle.value_numbers.specs.Spots.{Spot}
 
@@ -19,3 +21,7 @@ IsLeastAmong f spot spots found = MatchOption found
     (AllByRecursion (λ (other : Spot). MayTake f spot other.stmt.name → ⊥) spots)
     (λ y. MayTake f spot y × AllByRecursion
     (λ (other : Spot). MayTake f spot other.stmt.name → y ≤ other.stmt.name) spots)
+
+-- the tables of readability are those of the function, if they are made
+abbrev pub AreTablesOf : Function → Option Reading → Type 0
+AreTablesOf f tables = IfSome tables (IsReadingOf f)

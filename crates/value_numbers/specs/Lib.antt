@@ -1,4 +1,5 @@
 pub mod Candidates
+pub mod Entry
 pub mod Merges
 pub mod Rows
 pub mod Spots

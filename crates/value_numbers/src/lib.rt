@@ -3,11 +3,13 @@
 #![tactic(auto)]
 
 mod carrying;
+mod entry;
 mod equality;
 pub mod laws;
 mod merges;
 mod numbering;
 mod places;
+mod readability;
 mod table;
 
 pub use numbering::{Numbered, number};

@@ -6,7 +6,9 @@ ghost use Rattle.gim_meaning.specs.KeptRuns.{KeepsDefinedRuns};
 ghost use Rattle.value_numbers.specs.Merges.{Numbers};
 
 use crate::carrying::merge;
+use crate::entry::number_entry;
 use crate::merges::next_merge;
+use crate::table::no_buckets;
 use gim_ast::Function;
 use pm_items::Items;
 use pm_ops::OutOfMemory;
@@ -33,8 +35,9 @@ pub fn number(alloc: Global, mut function: Function) -> Result<Numbered, OutOfMe
     ensures runs { IfOk result (λ numbered. KeepsDefinedRuns function numbered.function) }
     ensures all { IfOk result (λ numbered. KeepsAllRuns function numbered.function) }
 {
-    let mut merges = Items::new(alloc);
-    while let Some((name, taken)) = next_merge(alloc, &function)? {
+    let mut merges = number_entry(alloc, &mut function)?;
+    let mut table = no_buckets(alloc, function.names.len().max(1))?;
+    while let Some((name, taken)) = next_merge(alloc, &function, &mut table)? {
         merge(&mut function, name, taken);
         merges.push((name, taken))?;
     }

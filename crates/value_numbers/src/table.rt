@@ -48,7 +48,7 @@ pub fn bucket_of(rhs: &Rhs, count: usize) -> usize
 }
 
 /// So many empty buckets.
-fn no_buckets(alloc: Global, count: usize) -> Result<Items<Items<Place>>, OutOfMemory>
+pub fn no_buckets(alloc: Global, count: usize) -> Result<Items<Items<Place>>, OutOfMemory>
     ensures count { IfOk result (λ buckets. length buckets ≡ count) }
     ensures empty { IfOk result (λ buckets. (b : ℕ) → slice_index_or buckets b [] ≡ []) }
 {
@@ -69,20 +69,40 @@ fn put(buckets: &mut Items<Items<Place>>, bucket: usize, place: Place) -> Result
     Ok(())
 }
 
-/// The statements at these places, each in the bucket of its right side.
-pub fn table(
-    alloc: Global,
+/// Takes everything out of a bucket. Its room stays.
+fn empty(buckets: &mut Items<Items<Place>>, bucket: usize)
+    requires { bucket < length buckets.old }
+    ensures { buckets.new ≡ slice_set buckets.old bucket [] }
+{
+    buckets.at_mut(bucket).clear();
+}
+
+/// Takes everything out of each bucket.
+fn empty_all(buckets: &mut Items<Items<Place>>)
+    ensures count { length buckets.new ≡ length buckets.old }
+    ensures empty { (b : ℕ) → slice_index_or buckets.new b [] ≡ [] }
+{
+    for bucket in 0..buckets.len() {
+        empty(buckets, bucket);
+    }
+}
+
+/// Puts the statements at these places into the table, each into the bucket of its right side, in
+/// place of what was there.
+pub fn fill(
+    table: &mut Items<Items<Place>>,
     function: &Function,
     places: &[Place],
-) -> Result<Items<Items<Place>>, OutOfMemory>
-    requires { ArePlaces function.now places.now (spots_of function.now) }
-    ensures count { IfOk result (λ table. length table ≡ length places.now) }
-    ensures buckets { IfOk result (AreBuckets function.now (spots_of function.now)) }
+) -> Result<(), OutOfMemory>
+    requires places { ArePlaces function.now places.now (spots_of function.now) }
+    requires some { 0 < length table.old }
+    ensures count { OnOk result (length table.new ≡ length table.old) }
+    ensures buckets { OnOk result (AreBuckets function.now (spots_of function.now) table.new) }
 {
-    let mut table = no_buckets(alloc, places.len())?;
+    empty_all(table);
     for place in places {
         let bucket = bucket_of(&stmt_at(function, *place).rhs, table.len());
-        put(&mut table, bucket, *place)?;
+        put(table, bucket, *place)?;
     }
-    Ok(table)
+    Ok(())
 }

@@ -1,9 +1,7 @@
-use Rattle.std.proofs.Common.{◌↔◌, false, refl, sym, subst}
-use Rattle.std.specs.Bool.{IsTrue}
+use Rattle.std.proofs.Common.{false, refl, sym, subst}
 use Rattle.std.proofs.lemmas.Bool.{both_ways}
 use Rattle.std.proofs.lemmas.Result.{IfOk-weaker}
 use Rattle.gim_ast.specs.declared.function.Stmt.{Stmt}
-use Rattle.gim_ast.specs.Readable.{IsReadable}
 use Rattle.value_numbers.specs.Candidates.{ComputesAlike}
 use Rattle.value_numbers.proofs.TakenNames.{may_take, computes_alike}
 use Rattle.value_numbers.proofs.merges.may_take.Goals as goal
@@ -27,7 +25,7 @@ returns-clause-may c = IfOk-weaker c.is_readable.result _ _ (λ readable told sp
     subst (λ (s : Stmt). ComputesAlike f spot.stmt s) (c.stmt_at-candidate.ensures another there)
     (subst (λ (s : Stmt). ComputesAlike f s c.stmt_at-candidate.result.now) (c.stmt_at-stmt.ensures spot here)
     (c.computes_alike.ensures.0 c.if-not-computes_alike.false)) in
-    let here_too = subst (λ (s : Stmt). IsTrue readable ↔ IsReadable f s.name spot.home spot.left) (c.stmt_at-candidate.ensures another there) (told spot here) in (
+    let here_too = told spot another here there in (
       λ yes. may_take f c.requires.valid c.args.place c.args.other spot another here there alike (here_too.0 yes),
       λ may. here_too.1 may.readable,
     )) c.is_readable.ensures.exact

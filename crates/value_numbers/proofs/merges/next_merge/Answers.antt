@@ -21,8 +21,8 @@ stmt_at-requires c =
     let one = spot_read f c.as_slice-place-items.result.now (spots_of f) are c.loop-place.place-index _ (omega arith) in
     (one.0, one.1)
 
-pub returns-in-Some : goal.returns-in-Some
-returns-in-Some c =
+pub returns-in-Some-clause-next : goal.returns-in-Some-clause-next
+returns-in-Some-clause-next c =
     let f = c.args.function.now in
     let are = subst (λ l. ArePlaces f l (spots_of f)) (sym c.as_slice-place-items.ensures) c.in_ok-places.ensures in
     let one = spot_read f c.as_slice-place-items.result.now (spots_of f) are c.loop-place.place-index _ (omega arith) in
@@ -43,8 +43,8 @@ loop-place-preserved c =
       none = none_so_far f c.loop-place.place-index one.0 one.2 c.loop-place.invariant.none none;
     }
 
-pub returns : goal.returns
-returns c =
+pub returns-clause-next : goal.returns-clause-next
+returns-clause-next c =
     let f = c.args.function.now in
     let are = subst (λ l. ArePlaces f l (spots_of f)) (sym c.as_slice-place-items.ensures) c.in_ok-places.ensures in
     subst (AllByRecursion (HasNone f)) (as_many f c.as_slice-place-items.result.now (spots_of f) are c.loop-place.place-index (omega arith)) c.loop-place.invariant.none

@@ -1,4 +1,4 @@
-use Rattle.std.proofs.Common.{ℕ, List, ◌++◌, length}
+use Rattle.std.proofs.Common.{◌<◌, ℕ, List, ◌++◌, length}
 use Rattle.gim_ast.specs.declared.function.Function.{Function}
 use Rattle.gim_ast.specs.Functions.{assigned}
 use Rattle.gim_ast.specs.Readable.{IsValid}
@@ -10,6 +10,7 @@ use Rattle.value_numbers.proofs.numbering.number.Given as goal
 abbrev pub invariant-loop-merges : goal.invariant-loop-merges
 invariant-loop-merges l = record {
   valid : IsValid l.function;
+  some : 0 < length l.table;
   numbers : (more : List (ℕ × ℕ)) (g : Function) → Numbers l.function more g → Numbers l.fn.function (l.merges ++ more) g;
   runs : KeepsAllRuns l.fn.function l.function;
 }
