@@ -1,0 +1,30 @@
+-- The listing of rows: a line for each, numbered from 1, with the place where its form begins.
+use Rattle.std.specs.Prelude.{ℕ, ◌+◌, List, [], ◌∷◌, ◌++◌, codes, decimal}
+use Rattle.pm_places.specs.Places.{line_of, column_of}
+use Rattle.pd_ast.specs.declared.form.Row.{Row}
+use Rattle.row_printing.specs.Patterns.{pattern_text}
+use Rattle.row_printing.specs.Results.{result_text}
+use Rattle.row_printing.specs.Texts.{spaced}
+
+-- `L:C`, the line and the column of byte number `at`
+abbrev pub place_text : List ℕ → ℕ → List ℕ
+place_text source at = decimal (line_of source at) ++ codes ":" ++ decimal (column_of source at)
+
+-- `#N L:C PATTERN RESULT`
+abbrev pub row_line : List ℕ → ℕ → Row → List ℕ
+row_line source number row =
+    codes "#" ++ decimal number
+    ++ spaced (place_text source row.at)
+    ++ spaced (pattern_text row.pattern)
+    ++ spaced (result_text row.result)
+    ++ codes "\n"
+
+-- the lines of rows that are numbered from a number on
+abbrev pub lines_from : List ℕ → ℕ → List Row → List ℕ
+lines_from source number [] = []
+lines_from source number (row ∷ rows) =
+    row_line source number row ++ lines_from source (number + 1) rows
+
+-- the lines of all rows
+abbrev pub listing : List ℕ → List Row → List ℕ
+listing source rows = lines_from source 1 rows
