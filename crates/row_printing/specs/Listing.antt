@@ -4,20 +4,21 @@ use Rattle.pm_places.specs.Places.{line_of, column_of}
 use Rattle.pd_ast.specs.declared.form.Row.{Row}
 use Rattle.row_printing.specs.Patterns.{pattern_text}
 use Rattle.row_printing.specs.Results.{result_text}
-use Rattle.row_printing.specs.Texts.{spaced}
 
 -- `L:C`, the line and the column of byte number `at`
 abbrev pub place_text : List ℕ → ℕ → List ℕ
 place_text source at = decimal (line_of source at) ++ codes ":" ++ decimal (column_of source at)
 
+-- `#N L:C `, which stands before the trees of a row
+unfoldable pub head_text : List ℕ → ℕ → ℕ → List ℕ
+head_text source number at =
+    codes "#" ++ decimal number ++ codes " " ++ place_text source at ++ codes " "
+
 -- `#N L:C PATTERN RESULT`
-abbrev pub row_line : List ℕ → ℕ → Row → List ℕ
+unfoldable pub row_line : List ℕ → ℕ → Row → List ℕ
 row_line source number row =
-    codes "#" ++ decimal number
-    ++ spaced (place_text source row.at)
-    ++ spaced (pattern_text row.pattern)
-    ++ spaced (result_text row.result)
-    ++ codes "\n"
+    head_text source number row.at
+    ++ pattern_text row.pattern ++ codes " " ++ result_text row.result ++ codes "\n"
 
 -- the lines of rows that are numbered from a number on
 abbrev pub lines_from : List ℕ → ℕ → List Row → List ℕ

@@ -1,7 +1,7 @@
 -- The text of patterns. Of the flags only `s` is printed, since a row has no other; what is printed
 -- for an operator without a code and for the use of a predicate of the file, neither of which stands
 -- in a row, is how a file spells them.
-use Rattle.std.specs.Prelude.{ℕ, Bool, true, false, if◌then◌else◌, List, [], ◌∷◌, ◌++◌, Option, Some, None, codes}
+use Rattle.std.specs.Prelude.{ℕ, Bool, if◌then◌else◌, List, [], ◌∷◌, ◌++◌, Option, Some, None, codes}
 use Rattle.pm_ops.specs.Names.{Name, code_name}
 use Rattle.pm_ops.specs.Predicates.{pred_name}
 use Rattle.pd_ast.specs.declared.pattern.Cap.{Cap}

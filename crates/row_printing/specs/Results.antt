@@ -1,5 +1,5 @@
 -- The text of results.
-use Rattle.std.specs.Prelude.{ℕ, Bool, true, false, if◌then◌else◌, List, [], ◌++◌, Option, Some, None, codes}
+use Rattle.std.specs.Prelude.{ℕ, Bool, if◌then◌else◌, List, [], ◌++◌, Option, Some, None, codes}
 use Rattle.std.specs.List.{flat_map}
 use Rattle.pm_ops.specs.Names.{Name}
 use Rattle.pd_ast.specs.declared.c_text.CDecl.{CDecl}

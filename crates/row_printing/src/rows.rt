@@ -1,6 +1,6 @@
 //! Rows and their places.
 ghost use Rattle.std.specs.Prelude.{◌≡◌, ◌≤◌, ◌<◌, ◌^◌, ◌++◌, All, OnOk, length};
-ghost use Rattle.row_printing.specs.Listing.{listing, place_text, row_line};
+ghost use Rattle.row_printing.specs.Listing.{head_text, listing, place_text, row_line};
 
 use crate::patterns::push_pattern;
 use crate::results::push_result;
@@ -23,20 +23,31 @@ pub fn push_rows(out: &mut Items<u8>, rows: &[Row], source: &[u8]) -> Result<(),
 }
 
 /// Appends the line of a row.
+#[tactic(auto, unfolding(crate::specs::Listing::row_line))]
 fn push_row(out: &mut Items<u8>, number: u64, row: &Row, source: &[u8]) -> Result<(), OutOfMemory>
     requires within { row.now.at ≤ length source.now }
     requires short { length source.now < 2 ^ 31 }
     ensures { OnOk result (out.new ≡ out.old ++ row_line source.now number row.now) }
 {
-    push_bytes(out, b"#")?;
-    push_number(out, number)?;
-    push_bytes(out, b" ")?;
-    push_place(out, source, row.at)?;
-    push_bytes(out, b" ")?;
+    push_head(out, number, row.at, source)?;
     push_pattern(out, row.pattern.get())?;
     push_bytes(out, b" ")?;
     push_result(out, row.result.get())?;
     push_bytes(out, b"\n")
+}
+
+/// Appends what stands before the trees of a row.
+#[tactic(auto, unfolding(crate::specs::Listing::head_text))]
+fn push_head(out: &mut Items<u8>, number: u64, at: usize, source: &[u8]) -> Result<(), OutOfMemory>
+    requires within { at ≤ length source.now }
+    requires short { length source.now < 2 ^ 31 }
+    ensures { OnOk result (out.new ≡ out.old ++ head_text source.now number at) }
+{
+    push_bytes(out, b"#")?;
+    push_number(out, number)?;
+    push_bytes(out, b" ")?;
+    push_place(out, source, at)?;
+    push_bytes(out, b" ")
 }
 
 /// Appends the line and the column of a place in the source.
