@@ -9,6 +9,7 @@ use Rattle.grammar.proofs.Sequence as sequences
 use Rattle.grammar.proofs.Sequence.{Never}
 use Rattle.grammar.proofs.Repetition.{repeated}
 use Rattle.grammar.proofs.Chains.{items_of_steps, steps_of_items}
+use Rattle.grammar.proofs.Items.{Added}
 use Rattle.grammar.proofs.EveryInput.{Reads, some_sequence}
 use Rattle.grammar.proofs.Starts.{Begun}
 
@@ -120,4 +121,15 @@ module _ {T E A : Type 0} (bound : ℕ) (N : Spelling T A) (begins : T → Bool)
         (λ now w s. let (xs, same, many) = items_of_steps N [] now w s in subst (λ l. Many N l w) (sym same) many)
         (λ now w s. steps_of_items N [] now w s)
         (items_exact [] input below);
+  }
+
+  -- after those before
+  pub items_added : (before : List A) → ReadsBelow bound (Added N before) more (more_at begins read before)
+  items_added before = record {
+    some = record { value = before ++ []; after = []; spelled = ([], refl, refl) };
+    exact = λ input below.
+        parts.in_words (Steps (Item N) before) (Added N before) more input (more_at begins read before input)
+        (λ now w s. items_of_steps N before now w s)
+        (λ now w s. subst (λ l. Steps (Item N) before l w) (sym s.1) (steps_of_items N before s.0 w s.2))
+        (items_exact before input below);
   }

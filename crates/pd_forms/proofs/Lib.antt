@@ -1,11 +1,11 @@
 -- What is shown of the stages of depth and syntax.
 mod DepthSteps
-mod Depths
-mod BoundedReading
+pub mod Depths
+pub mod BoundedReading
 mod HeadsExact
-mod PatternsExact
-mod PartsExact
-mod LeavesExact
+pub mod PatternsExact
+pub mod PartsExact
+pub mod LeavesExact
 mod SwitchItems
-mod ResultsExact
-mod TailsExact
+pub mod ResultsExact
+pub mod TailsExact

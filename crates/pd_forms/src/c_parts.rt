@@ -14,7 +14,7 @@ use pm_items::Items;
 use std::alloc::Global;
 
 /// A condition in its parentheses.
-pub(crate) fn read_condition(
+pub fn read_condition(
     alloc: Global,
     symbols: &[Symbol],
 ) -> Result<(ExprText, &[Symbol]), SymbolStop<'_>>

@@ -13,9 +13,11 @@ mod tail;
 mod tokens;
 mod tree;
 
+pub use c_parts::read_condition;
 pub use depth::check_depth;
 pub use leaf::read_leaf;
 pub use pattern::read_pattern;
 pub use result::read_result;
 pub use tail::read_tail;
+pub use tokens::{offends, read_identifier, read_mark};
 pub use tree::{HeadText, LeafText, PatternText, ResultText, TailText};

@@ -12,7 +12,7 @@ use pm_ops::PatternKind;
 use pm_places::Span;
 
 /// A fault of syntax at the first of these symbols, or at the end.
-pub(crate) fn offends(symbols: &[Symbol]) -> SymbolFault<'_>
+pub fn offends(symbols: &[Symbol]) -> SymbolFault<'_>
     ensures kind { result.kind ≡ readers.offends }
     ensures rest { result.rest.now ≡ symbols.now }
 {
@@ -23,10 +23,7 @@ pub(crate) fn offends(symbols: &[Symbol]) -> SymbolFault<'_>
 }
 
 /// The place of this mark.
-pub(crate) fn read_mark(
-    asked: Mark,
-    symbols: &[Symbol],
-) -> Result<(Span, &[Symbol]), SymbolFault<'_>>
+pub fn read_mark(asked: Mark, symbols: &[Symbol]) -> Result<(Span, &[Symbol]), SymbolFault<'_>>
     ensures reads { Gives (λ x. (x.0, x.1.now)) result (readers.mark_at asked symbols.now) }
     ensures shorter { IfOk result (λ x. length x.1.now < length symbols.now) }
 {
@@ -39,7 +36,7 @@ pub(crate) fn read_mark(
 }
 
 /// The place of an identifier.
-pub(crate) fn read_identifier(symbols: &[Symbol]) -> Result<(Span, &[Symbol]), SymbolFault<'_>>
+pub fn read_identifier(symbols: &[Symbol]) -> Result<(Span, &[Symbol]), SymbolFault<'_>>
     ensures reads { Gives (λ x. (x.0, x.1.now)) result (readers.identifier_at symbols.now) }
     ensures shorter { IfOk result (λ x. length x.1.now < length symbols.now) }
 {
