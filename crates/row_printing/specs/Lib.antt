@@ -1,0 +1,5 @@
+pub mod CText
+pub mod Listing
+pub mod Patterns
+pub mod Results
+pub mod Texts
