@@ -63,7 +63,12 @@ fn node_anew(alloc: Global, by: &Substitution, node: &CNode) -> Result<Option<CN
             let right = expr_anew(alloc, by, b.get())?;
             binary(alloc, name, left, a.get(), right, b.get())
         }
-        CNode::Choose(a, b, c) => choose_anew(alloc, by, a.get(), b.get(), c.get()),
+        CNode::Choose(a, b, c) => {
+            let when = expr_anew(alloc, by, a.get())?;
+            let first = expr_anew(alloc, by, b.get())?;
+            let second = expr_anew(alloc, by, c.get())?;
+            choose(alloc, when, a.get(), first, b.get(), second, c.get())
+        }
         CNode::CodeTest(a, equal, constant) => {
             let a = expr_anew(alloc, by, a.get())?;
             code_test(alloc, a, *equal, *constant)
@@ -73,28 +78,6 @@ fn node_anew(alloc: Global, by: &Substitution, node: &CNode) -> Result<Option<CN
             call(alloc, name, args)
         }
     }
-}
-
-#[cycle(c_with)]
-fn choose_anew(
-    alloc: Global,
-    by: &Substitution,
-    a: &CExpr,
-    b: &CExpr,
-    c: &CExpr,
-) -> Result<Option<CNode>, OutOfMemory>
-    ensures { IfOk result (λ made. unwrap_or made (nodes.Choose a.now b.now c.now) ≡
-        nodes.Choose (expr_with by.now a.now) (expr_with by.now b.now) (expr_with by.now c.now)) }
-{
-    let when = expr_anew(alloc, by, a)?;
-    let first = expr_anew(alloc, by, b)?;
-    let second = expr_anew(alloc, by, c)?;
-    if when.is_none() && first.is_none() && second.is_none() {
-        return Ok(None);
-    }
-    let when = boxed(alloc, when, a)?;
-    let first = boxed(alloc, first, b)?;
-    Ok(Some(CNode::Choose(when, first, boxed(alloc, second, c)?)))
 }
 
 #[cycle(c_with)]
@@ -148,6 +131,26 @@ fn binary(
     let left = boxed(alloc, left, a)?;
     let right = boxed(alloc, right, b)?;
     Ok(Some(CNode::Binary(name.copy(alloc)?, left, right)))
+}
+
+fn choose(
+    alloc: Global,
+    when: Option<CExpr>,
+    a: &CExpr,
+    first: Option<CExpr>,
+    b: &CExpr,
+    second: Option<CExpr>,
+    c: &CExpr,
+) -> Result<Option<CNode>, OutOfMemory>
+    ensures { IfOk result (λ made. unwrap_or made (nodes.Choose a.now b.now c.now) ≡
+        nodes.Choose (unwrap_or when a.now) (unwrap_or first b.now) (unwrap_or second c.now)) }
+{
+    if when.is_none() && first.is_none() && second.is_none() {
+        return Ok(None);
+    }
+    let when = boxed(alloc, when, a)?;
+    let first = boxed(alloc, first, b)?;
+    Ok(Some(CNode::Choose(when, first, boxed(alloc, second, c)?)))
 }
 
 fn code_test(

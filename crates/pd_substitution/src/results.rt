@@ -3,7 +3,7 @@
 ghost use Rattle.std.specs.Prelude.{◌≡◌, map, option_map, unwrap_or, IfOk};
 ghost use Rattle.pd_ast.specs.declared.result.Out.TheVariants as outs;
 ghost use Rattle.pd_ast.specs.declared.result.Tail.TheVariants as tails;
-ghost use Rattle.pd_substitution.specs.Substituted.{case_with, expr_with};
+ghost use Rattle.pd_substitution.specs.Substituted.{case_with};
 ghost use Rattle.pd_substitution.specs.Substituted.{out_node_with, result_with, tail_with};
 
 use crate::c_text::{decls_anew, expr_anew, or_copied, or_same_decls};
@@ -57,7 +57,12 @@ fn result_anew(alloc: Global, by: &Substitution, gives: &Out) -> Result<Option<O
             Some(node) => Ok(Some(Out::Node(node))),
             None => Ok(None),
         },
-        Out::If(when, inner, otherwise) => if_anew(alloc, by, when, inner, otherwise),
+        Out::If(when, inner, otherwise) => {
+            let condition = expr_anew(alloc, by, when)?;
+            let first = result_anew(alloc, by, inner.get())?;
+            let second = maybe_anew(alloc, by, otherwise)?;
+            conditional(alloc, condition, when, first, inner, second, otherwise)
+        }
         Out::Switch(cases, otherwise) => {
             let new_cases = cases_anew(alloc, by, cases.as_slice())?;
             let anew = maybe_anew(alloc, by, otherwise)?;
@@ -69,30 +74,6 @@ fn result_anew(alloc: Global, by: &Substitution, gives: &Out) -> Result<Option<O
             with_block(alloc, new_decls, decls.as_slice(), anew, inner)
         }
     }
-}
-
-#[cycle(result_with)]
-fn if_anew(
-    alloc: Global,
-    by: &Substitution,
-    when: &CExpr,
-    inner: &Shared<Out>,
-    otherwise: &Option<Shared<Out>>,
-) -> Result<Option<Out>, OutOfMemory>
-    ensures { IfOk result (λ made. unwrap_or made (outs.If when.now inner.now otherwise.now) ≡
-        outs.If (expr_with by.now when.now) (result_with by.now inner.now)
-        (option_map (result_with by.now) otherwise.now)) }
-{
-    let condition = expr_anew(alloc, by, when)?;
-    let first = result_anew(alloc, by, inner.get())?;
-    let second = maybe_anew(alloc, by, otherwise)?;
-    if condition.is_none() && first.is_none() && second.is_none() {
-        return Ok(None);
-    }
-    let condition = or_copied(alloc, condition, when)?;
-    let first = or_shared(alloc, first, inner)?;
-    let second = or_maybe_shared(second, otherwise)?;
-    Ok(Some(Out::If(condition, first, second)))
 }
 
 #[cycle(result_with)]
@@ -188,6 +169,28 @@ fn case_anew(
         when: or_copied(alloc, when, &case.when)?,
         gives: or_shared(alloc, gives, &case.gives)?,
     }))
+}
+
+fn conditional(
+    alloc: Global,
+    condition: Option<CExpr>,
+    when: &CExpr,
+    first: Option<Out>,
+    inner: &Shared<Out>,
+    second: Option<Option<Shared<Out>>>,
+    otherwise: &Option<Shared<Out>>,
+) -> Result<Option<Out>, OutOfMemory>
+    ensures { IfOk result (λ made. unwrap_or made (outs.If when.now inner.now otherwise.now) ≡
+        outs.If (unwrap_or condition when.now) (unwrap_or first inner.now)
+        (unwrap_or second otherwise.now)) }
+{
+    if condition.is_none() && first.is_none() && second.is_none() {
+        return Ok(None);
+    }
+    let condition = or_copied(alloc, condition, when)?;
+    let first = or_shared(alloc, first, inner)?;
+    let second = or_maybe_shared(second, otherwise)?;
+    Ok(Some(Out::If(condition, first, second)))
 }
 
 fn switch(
