@@ -1,7 +1,8 @@
 -- How many choices several loops have: the product of the lengths of their longest lists.
-use Rattle.std.proofs.Common.{◌≡◌, ℕ, ◌+◌, ◌*◌, ◌≤◌, ◌<◌, inl, inr, min, List, [], ◌∷◌, ◌++◌, length, refl, sym, ap, ◌∙◌, arith}
+use Rattle.std.proofs.Common.{◌≡◌, ℕ, ◌+◌, ◌-◌, ◌*◌, ◌^◌, ◌≤◌, ◌<◌, inl, inr, min, true, false, nat_lt, List, [], ◌∷◌, ◌++◌, length, refl, sym, ap, ◌∙◌, arith}
 use Rattle.std.specs.List.{flat_map}
 use Rattle.std.proofs.lemmas.Bool.{cases_lt}
+use Rattle.std.proofs.lemmas.Bool.Decides.{nat_tests}
 use Rattle.std.proofs.lemmas.List.{length-append, length-map}
 use Rattle.std.proofs.lemmas.List.FromFn.{length-map-range_with_len}
 use Rattle.pd_substitution.specs.declared.substitution.Entry.{Entry}
@@ -42,3 +43,16 @@ pub counted : (m : ℕ) (one : Loop) (loops : List Loop) → min (longest one.li
 counted m one loops =
     capped m (longest one.lists) (length (all_choices loops))
     ∙ ap (λ n. min n m) (sym (choices_length one loops))
+
+at_most : (n m : ℕ) → n ≤ m → nat_lt m n ≡ false
+at_most n m h = grind (arith, nat_tests)
+
+above_it : (n m : ℕ) → m < n → nat_lt m n ≡ true
+above_it n m h = grind (arith, nat_tests)
+
+-- a count that stands still at its end tells whether there are more than 65,536
+pub few : (n : ℕ) → min n (2 ^ 64 - 1) ≤ 65536 → nat_lt 65536 n ≡ false
+few n h = at_most n 65536 (omega arith)
+
+pub many : (n : ℕ) → 65536 < min n (2 ^ 64 - 1) → nat_lt 65536 n ≡ true
+many n h = above_it n 65536 (omega arith)

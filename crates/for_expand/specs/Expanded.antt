@@ -82,7 +82,8 @@ pred_row_with conditions row by = record {
 }
 
 abbrev pub case_with : List CExpr → Name → List Name → PredRow → Substitution → Flat
-case_with conditions name params row by = flat.Case name params (pred_row_with conditions row by)
+case_with conditions name params row by =
+    flat.Case name params (pred_row_with conditions row by) (length conditions)
 
 -- what a turn gives, in the order of its choices
 abbrev pub turn_rows : Turn → List Flat

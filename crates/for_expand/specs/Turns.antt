@@ -1,7 +1,7 @@
 -- The turns of a file, in its order: each list of operators, each pattern with its result, each case
 -- of a predicate. A form has its loops, the outer one first and the implied one last, and the
 -- conditions round it, the outer one first.
-use Rattle.std.specs.Prelude.{ℕ, List, [], ◌∷◌, ◌++◌, map}
+use Rattle.std.specs.Prelude.{ℕ, ◌==◌, if◌then◌else◌, List, [], ◌∷◌, ◌++◌, length, map}
 use Rattle.pm_ops.specs.Names.{Name}
 use Rattle.pd_ast.specs.declared.c_text.CExpr.{CExpr}
 use Rattle.pd_ast.specs.declared.form.Form.{Form, Form-F, fold-Form, out-Form}
@@ -31,11 +31,12 @@ abbrev pub implied_list : List NamedList → ℕ → Name → NamedList
 implied_list lists at name =
     record { name = name; at = at; entries = entries_or_none (list_named lists name) }
 
--- the lists that stand as operators in a form run in step
+-- the lists that stand as operators in a form run in step, where there are any
 abbrev pub implied_loops : List NamedList → ℕ → List Name → List Loop
-implied_loops lists at [] = []
-implied_loops lists at (name ∷ names) =
-    record { at = at; lists = map (implied_list lists at) (name ∷ names) } ∷ []
+implied_loops lists at names =
+    if length names == 0
+    then []
+    else (record { at = at; lists = map (implied_list lists at) names } ∷ [])
 
 abbrev pub outside : Setting
 outside = record { loops = []; conditions = [] }

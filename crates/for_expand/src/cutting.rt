@@ -25,7 +25,7 @@ pub fn turns(alloc: Global, forms: &[Form]) -> Result<Items<Turn>, OutOfMemory>
     let mut lists = Items::new(alloc);
     let mut made = Items::new(alloc);
     for form in forms {
-        made.append(turns_of(alloc, lists.as_slice(), form, &outside)?)?;
+        made.append(turns_of(alloc, form, lists.as_slice(), &outside)?)?;
         let added = added_by(alloc, lists.as_slice(), form)?;
         lists.append(added)?;
     }
@@ -72,8 +72,8 @@ fn list_made(
 #[cycle(turns_of)]
 fn turns_of(
     alloc: Global,
-    lists: &[NamedList],
     form: &Form,
+    lists: &[NamedList],
     setting: &Setting,
 ) -> Result<Items<Turn>, OutOfMemory>
     ensures { IfOk result (λ made. made ≡ turns_of lists.now form.now setting.now) }
@@ -81,10 +81,10 @@ fn turns_of(
     match form {
         Form::Simplify(form) => alone(alloc, simplify_turn(alloc, lists, form, setting)?),
         Form::Match(form) => alone(alloc, case_turn(alloc, lists, form, setting)?),
-        Form::For(form) => turns_of_for(alloc, lists, form, setting),
+        Form::For(form) => turns_of_for(alloc, form, lists, setting),
         Form::If(when, forms) => {
             let inner = under(alloc, when, setting)?;
-            all_in(alloc, lists, forms.as_slice(), &inner)
+            all_in(alloc, forms.as_slice(), lists, &inner)
         }
         Form::OpList(name, entries, at) => {
             let list = list_made(alloc, lists, name, entries.as_slice(), *at)?;
@@ -97,30 +97,30 @@ fn turns_of(
 #[cycle(turns_of)]
 fn turns_of_for(
     alloc: Global,
-    lists: &[NamedList],
     form: &ForForm,
+    lists: &[NamedList],
     setting: &Setting,
 ) -> Result<Items<Turn>, OutOfMemory>
     ensures { IfOk result (λ made. made ≡ turns_of_for lists.now form.now setting.now) }
 {
     let own = loop_of(alloc, lists, form.at, form.heads.as_slice())?;
     let inner = with_loops(alloc, setting, one_loop(alloc, own)?)?;
-    all_in(alloc, lists, form.body.as_slice(), &inner)
+    all_in(alloc, form.body.as_slice(), lists, &inner)
 }
 
 /// The turns of several forms in one setting.
 #[cycle(turns_of)]
 fn all_in(
     alloc: Global,
-    lists: &[NamedList],
     forms: &[Form],
+    lists: &[NamedList],
     setting: &Setting,
 ) -> Result<Items<Turn>, OutOfMemory>
     ensures { IfOk result (λ made. made ≡ all_in (map (turns_of lists.now) forms.now) setting.now) }
 {
     let mut made = Items::new(alloc);
     for form in forms {
-        made.append(turns_of(alloc, lists, form, setting)?)?;
+        made.append(turns_of(alloc, form, lists, setting)?)?;
     }
     Ok(made)
 }

@@ -28,16 +28,31 @@ pub fn expand_for(alloc: Global, forms: &[Form]) -> Result<Items<Flat>, PatternF
     ensures value { IfOk result (λ made. made ≡ expansion forms.now) }
 {
     let turns = turns(alloc, forms)?;
-    expand_turns(alloc, turns.as_slice())
+    match first_wrong_turn(turns.as_slice()) {
+        Some(fault) => Err(fault),
+        None => Ok(all_rows(alloc, turns.as_slice())?),
+    }
 }
 
-fn expand_turns(alloc: Global, turns: &[Turn]) -> Result<Items<Flat>, PatternFault>
-    ensures fault { Judges (first_fault (map turn_fault turns.now)) result }
-    ensures value { IfOk result (λ made. made ≡ flat_map turn_rows turns.now) }
+/// What is wrong with the first turn that has a fault.
+fn first_wrong_turn(turns: &[Turn]) -> Option<PatternFault>
+    ensures { result ≡ first_fault (map turn_fault turns.now) }
+{
+    for turn in turns {
+        if let Some(fault) = turn_fault(turn) {
+            return Some(fault);
+        }
+    }
+    None
+}
+
+/// The rows and cases of several turns.
+fn all_rows(alloc: Global, turns: &[Turn]) -> Result<Items<Flat>, OutOfMemory>
+    ensures { IfOk result (λ made. made ≡ flat_map turn_rows turns.now) }
 {
     let mut made = Items::new(alloc);
     for turn in turns {
-        made.append(expand(alloc, turn)?)?;
+        made.append(turn_rows(alloc, turn)?)?;
     }
     Ok(made)
 }

@@ -46,17 +46,17 @@ fn first_empty_list(loops: &[Shared<Loop>]) -> Option<PatternFault>
     ensures { result ≡ first_fault (map first_empty loops.now) }
 {
     for one in loops {
-        if let Some(fault) = first_empty(one.get()) {
+        if let Some(fault) = first_empty(one.get().lists.as_slice()) {
             return Some(fault);
         }
     }
     None
 }
 
-fn first_empty(one: &Loop) -> Option<PatternFault>
-    ensures { result ≡ first_empty one.now }
+fn first_empty(lists: &[NamedList]) -> Option<PatternFault>
+    ensures { result ≡ first_fault (map empty_fault lists.now) }
 {
-    for list in one.lists.as_slice() {
+    for list in lists {
         if let Some(fault) = empty_fault(list) {
             return Some(fault);
         }
@@ -110,6 +110,7 @@ fn divides(most: usize, list: &NamedList) -> bool
 }
 
 /// More choices than a form may have, at the `(` of the form.
+#[tactic(auto, using(crate::proofs::Counted::few, crate::proofs::Counted::many))]
 fn many_fault(at: usize, loops: &[Shared<Loop>]) -> Option<PatternFault>
     ensures { result ≡ many_fault at (length (all_choices loops.now)) }
 {

@@ -8,6 +8,7 @@ use pm_ops::Text;
 pub enum Flat {
     /// A row, and how many conditions of `if` round its form stand round its result.
     Simple(Row, usize),
-    /// A case of a predicate: its name, its parameters, its pattern and its end.
-    Case(Text, Items<Text>, PredRow),
+    /// A case of a predicate: its name, its parameters, its pattern and its end, and how many
+    /// conditions of `if` round its form stand before that end.
+    Case(Text, Items<Text>, PredRow, usize),
 }

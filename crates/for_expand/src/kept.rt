@@ -1,5 +1,6 @@
 //! The choices of a form in which no operator is `null`.
-ghost use Rattle.std.specs.Prelude.{◌≡◌, IfOk};
+ghost use Rattle.std.specs.Prelude.{◌≡◌, not, map, IfOk};
+ghost use Rattle.std.specs.List.{filter};
 ghost use Rattle.for_expand.specs.Expanded.{choice_of, choices_without_null, has_null};
 ghost use Rattle.for_expand.specs.Expanded.{operators_of_case, operators_of_exprs, operators_of_row};
 
@@ -23,9 +24,22 @@ pub fn choices_without_null(
 {
     let names = Shared::new(alloc, names_in(alloc, loops)?)?;
     let choices = all_choices(alloc, loops)?;
+    without_null(alloc, &names, choices.as_slice(), ops)
+}
+
+/// The choices in which none of the operators is `null`.
+fn without_null(
+    alloc: Global,
+    names: &Shared<Items<Text>>,
+    choices: &[Items<Entry>],
+    ops: &[OpRef],
+) -> Result<Items<Substitution>, OutOfMemory>
+    ensures { IfOk result (λ made. made ≡
+        filter (λ by. not (has_null ops.now by)) (map (choice_of names.now) choices.now)) }
+{
     let mut made = Items::new(alloc);
-    for entries in choices.as_slice() {
-        let by = choice_of(alloc, &names, entries.as_slice())?;
+    for entries in choices {
+        let by = choice_of(alloc, names, entries.as_slice())?;
         if !has_null(ops, &by) {
             made.push(by)?;
         }

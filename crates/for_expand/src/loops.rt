@@ -1,8 +1,8 @@
 //! Lists that run in step, and the choices of several such loops.
-ghost use Rattle.std.specs.Prelude.{◌≡◌, ◌-◌, ◌^◌, [], ◌∷◌, length, min, IfOk};
+ghost use Rattle.std.specs.Prelude.{◌≡◌, ◌-◌, ◌^◌, [], ◌∷◌, length, max, min, IfOk};
 ghost use Rattle.std.specs.List.{flat_map};
 ghost use Rattle.for_expand.specs.Loops.{all_choices, before_each, entry_in_step, in_step, longest};
-ghost use Rattle.for_expand.specs.Loops.{loop_choices, names_in, names_of, or_null};
+ghost use Rattle.for_expand.specs.Loops.{list_names, names_in, or_null, steps_of};
 
 use crate::lists::NamedList;
 use pd_substitution::Entry;
@@ -24,9 +24,15 @@ pub fn longest(lists: &[NamedList]) -> usize
 {
     let mut most = 0;
     for list in lists {
-        most = most.max(list.entries.len());
+        most = longer(most, list.entries.len());
     }
     most
+}
+
+fn longer(a: usize, b: usize) -> usize
+    ensures { result ≡ max a b }
+{
+    if a < b { b } else { a }
 }
 
 /// How many choices several loops have, which aren't made. Stands still at 2^64 - 1.
@@ -54,7 +60,7 @@ pub fn all_choices(
     match loops {
         [] => no_choice(alloc),
         [one, rest @ ..] => {
-            let steps = loop_choices(alloc, one.get())?;
+            let steps = steps_of(alloc, one.get().lists.as_slice())?;
             let inner = all_choices(alloc, rest)?;
             each_before(alloc, steps.as_slice(), inner.as_slice())
         }
@@ -101,11 +107,11 @@ fn before_each(
     Ok(made)
 }
 
-/// The choices of one loop, up to the end of the longest list.
-fn loop_choices(alloc: Global, one: &Loop) -> Result<Items<Items<Entry>>, OutOfMemory>
-    ensures { IfOk result (λ made. made ≡ loop_choices one.now) }
+/// The choices of lists that run in step, up to the end of the longest.
+#[tactic(auto, using(crate::proofs::Steps::one_step_more))]
+fn steps_of(alloc: Global, lists: &[NamedList]) -> Result<Items<Items<Entry>>, OutOfMemory>
+    ensures { IfOk result (λ made. made ≡ steps_of lists.now) }
 {
-    let lists = one.lists.as_slice();
     let mut made = Items::new(alloc);
     for i in 0..longest(lists) {
         made.push(in_step(alloc, lists, i)?)?;
@@ -125,6 +131,7 @@ fn in_step(alloc: Global, lists: &[NamedList], i: usize) -> Result<Items<Entry>,
 }
 
 /// The entry of a list: a shorter list is read again from its start.
+#[tactic(auto, using(crate::proofs::Steps::empty_in_step))]
 fn entry_in_step(list: &NamedList, i: usize) -> Entry
     ensures { result ≡ entry_in_step i list.now }
 {
@@ -150,16 +157,16 @@ pub fn names_in(alloc: Global, loops: &[Shared<Loop>]) -> Result<Items<Text>, Ou
 {
     let mut made = Items::new(alloc);
     for one in loops {
-        made.append(names_of(alloc, one.get())?)?;
+        made.append(list_names(alloc, one.get().lists.as_slice())?)?;
     }
     Ok(made)
 }
 
-fn names_of(alloc: Global, one: &Loop) -> Result<Items<Text>, OutOfMemory>
-    ensures { IfOk result (λ made. made ≡ names_of one.now) }
+fn list_names(alloc: Global, lists: &[NamedList]) -> Result<Items<Text>, OutOfMemory>
+    ensures { IfOk result (λ made. made ≡ list_names lists.now) }
 {
     let mut made = Items::new(alloc);
-    for list in one.lists.as_slice() {
+    for list in lists {
         made.push(list.name.copy(alloc)?)?;
     }
     Ok(made)

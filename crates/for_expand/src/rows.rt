@@ -78,7 +78,9 @@ pub fn case_rows(
     let mut made = Items::new(alloc);
     for by in choices {
         let row = pred_row_with(alloc, conditions, row, by)?;
-        made.push(Flat::Case(name.copy(alloc)?, copied_names(alloc, params)?, row))?;
+        let predicate = name.copy(alloc)?;
+        let own = copied_names(alloc, params)?;
+        made.push(Flat::Case(predicate, own, row, conditions.len()))?;
     }
     Ok(made)
 }

@@ -1,7 +1,7 @@
 use Rattle.std.proofs.Common.{◌≡◌, ◌++◌, not, map, drop}
 use Rattle.std.specs.List.{filter}
 use Rattle.for_expand.specs.Expanded.{choice_of, has_null}
-use Rattle.for_expand.proofs.kept.choices_without_null.Given as goal
+use Rattle.for_expand.proofs.kept.without_null.Given as goal
 
 abbrev pub invariant-loop-entries : goal.invariant-loop-entries
 invariant-loop-entries l =
