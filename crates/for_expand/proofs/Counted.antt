@@ -1,5 +1,5 @@
 -- How many choices several loops have: the product of the lengths of their longest lists.
-use Rattle.std.proofs.Common.{◌≡◌, ℕ, ◌+◌, ◌-◌, ◌*◌, ◌^◌, ◌≤◌, ◌<◌, inl, inr, min, true, false, nat_lt, List, [], ◌∷◌, ◌++◌, length, refl, sym, ap, ◌∙◌, arith}
+use Rattle.std.proofs.Common.{◌≡◌, ℕ, zero, suc, ◌+◌, ◌-◌, ◌*◌, ◌^◌, ◌≤◌, ◌<◌, inl, inr, min, true, false, nat_lt, List, [], ◌∷◌, ◌++◌, length, refl, sym, ap, ◌∙◌, arith}
 use Rattle.std.specs.List.{flat_map}
 use Rattle.std.proofs.lemmas.Bool.{cases_lt}
 use Rattle.std.proofs.lemmas.Bool.Decides.{nat_tests}
@@ -13,7 +13,7 @@ grow : (a b : ℕ) → b + a * b ≡ suc a * b
 grow a b = omega arith
 
 product : (inner steps : List (List Entry)) → length (flat_map (before_each inner) steps) ≡ length steps * length inner
-product inner [] = refl
+product inner [] = omega arith
 product inner (step ∷ steps) =
     length-append (before_each inner step) (flat_map (before_each inner) steps)
     ∙ (λ i. length-map inner (λ rest. step ++ rest) i + product inner steps i)
