@@ -1,0 +1,2 @@
+-- What is shown of the rules on patterns.
+mod Counts

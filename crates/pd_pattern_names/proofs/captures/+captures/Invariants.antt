@@ -1,0 +1,9 @@
+-- What the loop over patterns keeps.
+use Rattle.std.proofs.Common.{◌≡◌, ◌++◌, map, drop}
+use Rattle.pd_forms.specs.Trees.{pattern_of, operands}
+use Rattle.pd_pattern_names.specs.Captures.{captures_among}
+use Rattle.pd_pattern_names.proofs.captures.+captures.Given as goal
+
+abbrev pub invariant-note_all-loop-pattern : goal.invariant-note_all-loop-pattern
+invariant-note_all-loop-pattern l =
+    l.noted ++ captures_among (operands (map pattern_of (drop l.pattern-index l.patterns))) ≡ l.initial.noted ++ captures_among (operands (map pattern_of l.patterns))
