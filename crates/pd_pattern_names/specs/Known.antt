@@ -42,8 +42,12 @@ abbrev pub arity_of_chosen : Option Chosen → Option Arity
 arity_of_chosen None = None
 arity_of_chosen (Some one) = Some one.arity
 
+-- the first of these of the name
+abbrev pub first_named : List ℕ → List Chosen → Name → Option Chosen
+first_named source chosen name = find (λ (one : Chosen). bytes_eq (text_of source one.name) name) chosen
+
 abbrev pub arity_in : List ℕ → List Chosen → Name → Option Arity
-arity_in source chosen name = arity_of_chosen (find (λ (one : Chosen). bytes_eq (text_of source one.name) name) chosen)
+arity_in source chosen name = arity_of_chosen (first_named source chosen name)
 
 -- what an entry of a list takes, if it is an operation, `null` or a list above
 abbrev pub entry_arity : List ℕ → List Chosen → Name → Option Arity

@@ -43,15 +43,21 @@ pub fn is_chosen(source: &[u8], chosen: &[Chosen], name: &[u8]) -> bool
     chosen.iter().any(|one| text(source, one.name) == name)
 }
 
+/// The first of these of the name.
+fn first_named(source: &[u8], chosen: &[Chosen], name: &[u8]) -> Option<Chosen>
+    ensures { result ≡ all.first_named source.now chosen.now name.now }
+{
+    chosen
+        .iter()
+        .copied()
+        .find(|one| text(source, one.name) == name)
+}
+
 /// What the first of these of the name takes.
 fn arity_in(source: &[u8], chosen: &[Chosen], name: &[u8]) -> Option<Option<usize>>
     ensures { result ≡ all.arity_in source.now chosen.now name.now }
 {
-    let found = chosen
-        .iter()
-        .copied()
-        .find(|one| text(source, one.name) == name);
-    match found {
+    match first_named(source, chosen, name) {
         Some(one) => Some(one.arity),
         None => None,
     }
