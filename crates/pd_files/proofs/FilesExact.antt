@@ -1,9 +1,8 @@
 -- A file is read exactly, and the stage of syntax answers so.
 use Rattle.std.proofs.Common.{◌≡◌, List, [], ◌∷◌, Result, Ok, Err, refl, sym, subst, ◌∙◌}
 use Rattle.std.specs.Prelude.{ℕ, IfOk, IfErr}
-use Rattle.grammar.specs.Reading.{Answer}
 use Rattle.grammar.specs.Gives.{GivesInMemory}
-use Rattle.grammar.specs.Whole.{IsFirstFault, IsReading, whole_of}
+use Rattle.grammar.specs.Whole.{IsReading, whole_of}
 use Rattle.grammar.specs.declared.stop.Stop.{Stop}
 use Rattle.grammar.specs.declared.stop.Stop.TheVariants as stops
 use Rattle.grammar.proofs.Sequence.{Never}

@@ -1,7 +1,7 @@
 -- Forms are read exactly, at every input.
-use Rattle.std.proofs.Common.{◌≡◌, ℕ, suc, ◌+◌, ◌<◌, Bool, true, false, if◌then◌else◌, List, [], ◌∷◌, ◌++◌, length, Option, Some, None, Ok, refl, sym, ap, subst, ◌∙◌, ◌⊎◌, inl, inr, arith}
+use Rattle.std.proofs.Common.{◌≡◌, ℕ, suc, ◌+◌, ◌<◌, Bool, true, false, if◌then◌else◌, List, [], ◌∷◌, ◌++◌, length, Option, Some, None, refl, sym, ap, subst, arith}
 use Rattle.std.specs.Prelude.{is_some, ◌||◌}
-use Rattle.grammar.specs.Spelling.{Spelling, Begins, Meant, Then, Mapped, Many}
+use Rattle.grammar.specs.Spelling.{Spelling, Begins, Meant, Then, Many}
 use Rattle.grammar.specs.Reading.{◌>>=◌, meant_at, more_at}
 use Rattle.grammar.specs.Exact.{IsExact}
 use Rattle.grammar.proofs.Parts as parts
@@ -19,17 +19,13 @@ use Rattle.pd_text.specs.declared.symbol.Mark.TheVariants as marks
 use Rattle.pd_text.specs.declared.symbol.Word.{Word}
 use Rattle.pd_text.specs.declared.symbol.Word.TheVariants as words
 use Rattle.pd_text.specs.Meanings as meanings
-use Rattle.cond_subset.specs.Trees.{Expr}
 use Rattle.cond_subset.specs.Declarations.{AWord}
 use Rattle.cond_subset.proofs.SymbolsExact.{somewhere, some_mark, some_identifier}
-use Rattle.pd_files.specs.declared.tree.ListText.{ListText}
 use Rattle.pd_files.specs.declared.tree.CaseHeadText.{CaseHeadText}
-use Rattle.pd_forms.specs.SymbolReaders.{mark_at, identifier_at, joined}
+use Rattle.pd_forms.specs.SymbolReaders.{joined}
 use Rattle.pd_forms.specs.Trees.{Pattern}
-use Rattle.pd_forms.specs.Results.{Result}
 use Rattle.pd_forms.specs.LeafReaders.{captured}
-use Rattle.pd_forms.specs.Tails as tails
-use Rattle.pd_forms.specs.Tails.{Tail, SpellsTail, IsOpen}
+use Rattle.pd_forms.specs.Tails.{SpellsTail, IsOpen}
 use Rattle.pd_forms.specs.Grammar.{SpellsPattern, IsJoined}
 use Rattle.pd_forms.specs.ResultGrammar.{SpellsCondition, SpellsResult}
 use Rattle.pd_forms.specs.PatternReaders.{whole_pattern_at}
@@ -37,7 +33,7 @@ use Rattle.pd_forms.specs.PartReaders.{condition_at}
 use Rattle.pd_forms.specs.ResultReaders.{whole_result_at}
 use Rattle.pd_forms.specs.TailReaders.{whole_tail_at}
 use Rattle.pd_files.specs.Forms.{Form, simplify, case, choices, conditional, operators, predicates, Forms, none, more, forms, SpellsSome, SpellsNames, SpellsList, SpellsCaseHead, SpellsForm, SpellsForms, SpellsBody, SpellsTop}
-use Rattle.pd_files.specs.FormReaders.{Inner, is_name, names_at, lists_at, case_head_at, node_at, close_at, simplify_at, match_at, begins_form, body_at, for_at, if_at, operators_at, predicates_at, Opening, simplified, matched, chosen, tested, operator_list, predicate_list, opening, top_opening, after_opening, opened_at, any_form_at, forms_at, top_at}
+use Rattle.pd_files.specs.FormReaders.{Inner, names_at, lists_at, case_head_at, node_at, close_at, simplify_at, match_at, begins_form, body_at, operators_at, predicates_at, Opening, simplified, matched, chosen, tested, operator_list, predicate_list, opening, top_opening, after_opening, opened_at, any_form_at, forms_at, top_at}
 use Rattle.pd_forms.proofs.BoundedReading as bounded
 use Rattle.pd_forms.proofs.BoundedReading.{ReadsBelow}
 use Rattle.pd_forms.proofs.PatternsExact.{IsClose, pattern_reads}

@@ -1,8 +1,8 @@
 -- Names, lists, and heads of cases are read exactly.
-use Rattle.std.proofs.Common.{◌≡◌, Bool, true, false, List, [], ◌∷◌, ◌++◌, Option, Some, None, Ok, refl, sym, ap, subst, ◌∙◌}
-use Rattle.std.specs.Prelude.{is_some, if◌then◌else◌, ◌||◌}
+use Rattle.std.proofs.Common.{◌≡◌, Bool, true, false, List, [], ◌∷◌, ◌++◌, Some, Ok, refl, sym, ap, subst, ◌∙◌}
+use Rattle.std.specs.Prelude.{is_some}
 use Rattle.std.proofs.lemmas.List.{append-nil}
-use Rattle.grammar.specs.Spelling.{Spelling, Begins, Nothing, Meant, Then, Mapped, Many}
+use Rattle.grammar.specs.Spelling.{Spelling, Begins, Nothing, Meant, Then, Mapped}
 use Rattle.grammar.specs.Reading.{◌>>=◌, more_at}
 use Rattle.grammar.proofs.Sequence.{Never}
 use Rattle.grammar.proofs.EveryInput.{Reads, nothing, one_token, seen_by, in_sequence, after_free, after_token, in_words}
@@ -21,7 +21,7 @@ use Rattle.pd_files.specs.declared.tree.CaseHeadText.{CaseHeadText}
 use Rattle.pd_forms.specs.SymbolReaders.{Read, mark_at, identifier_at}
 use Rattle.pd_forms.specs.ResultGrammar.{lone}
 use Rattle.pd_files.specs.Forms.{SpellsSome, SpellsNames, SpellsList, SpellsCalled, SpellsCaseHead}
-use Rattle.pd_files.specs.FormReaders.{is_name, names_at, close_list_at, list_at, lists_at, is_parameter, parameter_at, parameters_at, HeadStart, named, called, head_start, close_head_at, called_at, after_head_start, case_head_at}
+use Rattle.pd_files.specs.FormReaders.{is_name, names_at, close_list_at, list_at, lists_at, is_parameter, parameter_at, parameters_at, HeadStart, named, called, head_start, close_head_at, after_head_start, case_head_at}
 use Rattle.pd_forms.proofs.PatternsExact.{IsClose, close_is}
 
 -- a part before one that begins with a symbol that doesn't go on it

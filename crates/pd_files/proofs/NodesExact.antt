@@ -1,5 +1,5 @@
 -- Patterns that are operations are read exactly, and what a tail before a `)` begins with.
-use Rattle.std.proofs.Common.{◌≡◌, Bool, true, false, List, [], ◌∷◌, ◌++◌, Option, Some, None, Err, refl, sym, ap, subst, ◌∙◌, ◌⊎◌, inl, inr}
+use Rattle.std.proofs.Common.{◌≡◌, true, false, List, [], ◌∷◌, ◌++◌, Option, Some, None, Err, refl, sym, ap, subst, ◌∙◌, ◌⊎◌, inl, inr}
 use Rattle.grammar.specs.Spelling.{Spelling, Begins, Meant}
 use Rattle.grammar.specs.Exact.{IsExact}
 use Rattle.grammar.proofs.Parts.{SameStart, starting_so, refused}

@@ -8,12 +8,10 @@ use Rattle.pd_text.specs.declared.symbol.Symbol.TheVariants as symbols
 use Rattle.pd_text.specs.declared.symbol.Mark.TheVariants as marks
 use Rattle.pd_text.specs.declared.symbol.Word.TheVariants as words
 use Rattle.pd_text.specs.Meanings as meanings
-use Rattle.cond_subset.specs.Trees.{Expr}
 use Rattle.pd_files.specs.declared.tree.ListText.{ListText}
 use Rattle.pd_files.specs.declared.tree.CaseHeadText.{CaseHeadText}
 use Rattle.pd_forms.specs.SymbolReaders.{Read, mark_at, identifier_at}
 use Rattle.pd_forms.specs.Trees.{Pattern}
-use Rattle.pd_forms.specs.Results.{Result}
 use Rattle.pd_forms.specs.PatternReaders.{whole_pattern_at}
 use Rattle.pd_forms.specs.PartReaders.{condition_at}
 use Rattle.pd_forms.specs.ResultGrammar.{lone}
