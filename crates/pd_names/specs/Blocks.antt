@@ -1,5 +1,5 @@
 -- The rules on the names of `with` blocks, and what stands below one.
-use Rattle.std.specs.Prelude.{ℕ, List, [], ◌∷◌, ◌++◌, Option, Some, None}
+use Rattle.std.specs.Prelude.{ℕ, List, [], ◌∷◌, ◌++◌, Option, None}
 use Rattle.pm_ops.specs.declared.fault.PatternFault.{PatternFault}
 use Rattle.pm_places.specs.FirstFaults.{or_fault}
 use Rattle.cond_subset.specs.declared.scope.Declared.{Declared}

@@ -1,6 +1,5 @@
 -- The first fault of the stage of names over a whole file, and what is known after each form.
-use Rattle.std.specs.Prelude.{ℕ, ◌==◌, nat_lt, Bool, true, false, not, ◌&&◌, ◌||◌, List, [], ◌∷◌, ◌++◌, map, length, Option, Some, None}
-use Rattle.pm_ops.specs.Names.{Name}
+use Rattle.std.specs.Prelude.{ℕ, nat_lt, Bool, true, false, ◌||◌, List, [], ◌∷◌, ◌++◌, map, length, Option, Some, None}
 use Rattle.pm_ops.specs.declared.fault.PatternFault.{PatternFault}
 use Rattle.pm_ops.specs.declared.fault.PatternKind.TheVariants.{DuplicateName, LateCase, BadArity, TooManyCaptures, TooManyNodes}
 use Rattle.pm_places.specs.declared.span.Span.{Span}

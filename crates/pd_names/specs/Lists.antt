@@ -1,5 +1,5 @@
 -- The rules on lists of operators and their names.
-use Rattle.std.specs.Prelude.{ℕ, ◌==◌, Bool, true, false, not, is_none, List, [], ◌∷◌, ◌++◌, Option, Some, None}
+use Rattle.std.specs.Prelude.{ℕ, ◌==◌, Bool, false, not, is_none, List, [], ◌∷◌, ◌++◌, Option, Some, None}
 use Rattle.pm_ops.specs.declared.fault.PatternFault.{PatternFault}
 use Rattle.pm_ops.specs.declared.fault.PatternKind.TheVariants.{DuplicateName, UnknownOperator, BadArity}
 use Rattle.pm_places.specs.declared.span.Span.{Span}

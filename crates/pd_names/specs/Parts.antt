@@ -1,5 +1,5 @@
 -- The rules on the captures and names of C parts.
-use Rattle.std.specs.Prelude.{ℕ, Bool, true, false, not, ◌||◌, is_some, List, Option, Some, None, if◌then◌else◌}
+use Rattle.std.specs.Prelude.{ℕ, Bool, not, ◌||◌, is_some, List, Option, None, if◌then◌else◌}
 use Rattle.pm_ops.specs.Names.{Name, code_c_named}
 use Rattle.pm_ops.specs.declared.fault.PatternFault.{PatternFault}
 use Rattle.pm_ops.specs.declared.fault.PatternKind.TheVariants.{UnboundCapture, CName}
