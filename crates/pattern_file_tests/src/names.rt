@@ -29,7 +29,7 @@ const ACCEPTED: [&str; 16] = [
 ];
 
 /// Texts with a fault of names, behind the mark.
-const REFUSED: [(&str, PatternKind); 62] = [
+const REFUSED: [(&str, PatternKind); 66] = [
     // names that are taken
     ("(define_operator_list `plus)", PatternKind::DuplicateName),
     (
@@ -96,6 +96,10 @@ const REFUSED: [(&str, PatternKind); 62] = [
         "(for a (plus) (match q @0)) (simplify (`a @0 @1) @0)",
         PatternKind::UnknownOperator,
     ),
+    (
+        "(simplify (abs (`convert1 @0)) @0)",
+        PatternKind::UnknownOperator,
+    ),
     // predicates
     ("(match p (negate `p@0))", PatternKind::UnknownPredicate),
     (
@@ -108,6 +112,10 @@ const REFUSED: [(&str, PatternKind); 62] = [
     ),
     (
         "(simplify (plus @0 `p) @0) (match p @0)",
+        PatternKind::UnknownPredicate,
+    ),
+    (
+        "(match (p @0) (abs @0)) (match (p @0) (plus @0 `p))",
         PatternKind::UnknownPredicate,
     ),
     // numbers of operands
@@ -147,6 +155,10 @@ const REFUSED: [(&str, PatternKind); 62] = [
         "(match (p @0) @0) (simplify (abs (p`? @0)) @0)",
         PatternKind::BadFlag,
     ),
+    (
+        "(match (convert1 @0) (abs @0)) (simplify (abs (convert1`? @0)) @0)",
+        PatternKind::BadFlag,
+    ),
     ("(simplify (negate`? @0) @0)", PatternKind::BadFlag),
     ("(match p (negate`? @0))", PatternKind::BadFlag),
     ("(simplify (abs (plus`? @0 @1)) @0)", PatternKind::BadFlag),
@@ -181,6 +193,10 @@ const REFUSED: [(&str, PatternKind); 62] = [
         "(match (p @0) (negate@0 @1)) (match (q @0) (abs (p @0))) (match r (abs (q `(abs @0))))",
         PatternKind::BadArgument,
     ),
+    (
+        "(match (p @0) (negate@0 @1)) (simplify (abs (p `(sqrt @2))) @2)",
+        PatternKind::BadArgument,
+    ),
     // captures
     ("(simplify (plus @0 @1) `@2)", PatternKind::UnboundCapture),
     (
@@ -211,7 +227,7 @@ const REFUSED: [(&str, PatternKind); 62] = [
         PatternKind::CName,
     ),
     (
-        "(simplify (plus @0 @1) (with { bool o = true; } (with { wi::overflow_type o; } (if (`o) @0))))",
+        "(simplify (abs @0) (with { int o = 1; } (with { wi::overflow_type o; } (if (`o) @0))))",
         PatternKind::CName,
     ),
     (
