@@ -1,6 +1,6 @@
 -- The types that the text of a result decides: whether an operation has one of its own, or is asked for one, whichever operations its
 -- heads stand for. A head stands for each of its operations, apart from what the other heads stand for.
-use Rattle.std.specs.Prelude.{ℕ, zero, suc, Bool, true, false, ◌&&◌, is_some, is_none, List, [], ◌∷◌, map, concat_map, Option, Some, None, if◌then◌else◌}
+use Rattle.std.specs.Prelude.{ℕ, zero, suc, Bool, true, false, ◌&&◌, is_some, is_none, List, [], ◌∷◌, map, flat_map, Option, Some, None, if◌then◌else◌}
 use Rattle.std.specs.List.{list_any}
 use Rattle.pm_ops.specs.declared.code.Code.{Code}
 use Rattle.pm_places.specs.Spans.{text_of}
@@ -25,7 +25,7 @@ codes_of source entries head = head_codes source entries (text_of source head.na
 -- the own type of an operation under each choice, where these are those of its first three operands
 abbrev pub owns_by : List Code → List AType → List AType → List AType → List AType
 owns_by codes first second third =
-    concat_map (λ code. concat_map (λ a. concat_map (λ b. map (λ c. own_of_code known_types code a b c) third) second) first) codes
+    flat_map (λ code. flat_map (λ a. flat_map (λ b. map (λ c. own_of_code known_types code a b c) third) second) first) codes
 
 abbrev mutual
   -- its own type under each choice: captures and braces have one, and so has an operation with a type after `:`
@@ -44,13 +44,13 @@ abbrev mutual
 
 abbrev pub asked_at : ℕ → AType × AType × AType → AType
 asked_at zero asked = asked.0
-asked_at (suc zero) asked = asked.1.0
-asked_at at asked = asked.1.1
+asked_at (suc zero) asked = asked.1
+asked_at at asked = asked.2
 
 -- what an operation that has a type asks of the operand at this place, under each choice of its own operation and of the operands
 -- beside that one
 abbrev pub asks : ℕ → List Code → List AType → List AType → List AType
-asks at codes first second = concat_map (λ code. concat_map (λ a. map (λ b. asked_at at (asked_by_code known_types code tt a b)) second) first) codes
+asks at codes first second = flat_map (λ code. flat_map (λ a. map (λ b. asked_at at (asked_by_code known_types code tt a b)) second) first) codes
 
 -- What the operand at this place has of its own does not decide what it is asked for: only a comparison asks by an operand, and of the
 -- other one. So it lacks a type under some choice where it has none of its own under one and is asked for none under another. Its

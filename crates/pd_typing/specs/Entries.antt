@@ -1,9 +1,8 @@
 -- Which operations a name stands for at a place of a file.
-use Rattle.std.specs.Prelude.{ℕ, List, [], ◌∷◌, ◌++◌, Option, Some, None, find, concat_map}
+use Rattle.std.specs.Prelude.{ℕ, List, [], ◌∷◌, ◌++◌, Option, Some, None, find, flat_map}
 use Rattle.std.specs.Str.{bytes_eq}
 use Rattle.pm_ops.specs.Names.{Name, code_named}
 use Rattle.pm_ops.specs.declared.code.Code.{Code}
-use Rattle.pm_places.specs.declared.span.Span.{Span}
 use Rattle.pm_places.specs.Spans.{text_of}
 use Rattle.pd_files.specs.declared.tree.ListText.{ListText}
 use Rattle.pd_typing.specs.declared.listed.Listed.{Listed}
@@ -26,7 +25,7 @@ abbrev pub entry_codes : List ℕ → List Listed → Name → List Code
 entry_codes source lists name = code_or (code_named name) (codes_in source lists name [])
 
 abbrev pub listed : List ℕ → List Listed → ListText → Listed
-listed source lists list = record { name = list.name; codes = concat_map (λ at. entry_codes source lists (text_of source at)) list.entries }
+listed source lists list = record { name = list.name; codes = flat_map (λ at. entry_codes source lists (text_of source at)) list.entries }
 
 -- the head of an operation: an operation, an identifier of a `for` round the place or a list above
 abbrev pub head_codes : List ℕ → Entries → Name → List Code

@@ -1,10 +1,8 @@
 -- The faults of types of C parts, and what the blocks round a part declare.
 use Rattle.std.specs.Prelude.{ℕ, Bool, List, [], ◌++◌, map, Option, Some, None, Result, Ok, Err}
-use Rattle.pm_ops.specs.Names.{Name}
 use Rattle.pm_ops.specs.declared.fault.PatternFault.{PatternFault}
 use Rattle.pm_places.specs.Spans.{text_of}
 use Rattle.pd_ast.specs.declared.c_text.CDecl.{CDecl}
-use Rattle.pd_ast.specs.declared.c_text.CType.{CType}
 use Rattle.pd_ast.specs.declared.c_text.CType.TheVariants.{Truth, Oper}
 use Rattle.cond_subset.specs.declared.scope.Local.{Local}
 use Rattle.cond_subset.specs.declared.scope.Scope.{Scope}
