@@ -1,0 +1,4 @@
+pub mod Captures
+pub mod Mentions
+pub mod Counts
+pub mod Uses

@@ -1,0 +1,35 @@
+-- How many choices there are of a case of each of several predicates.
+use Rattle.std.proofs.Common.{◌≡◌, ℕ, ◌+◌, ◌*◌, ◌≤◌, ◌<◌, inl, inr, min, List, [], ◌∷◌, ◌++◌, length, map, refl, sym, ap, ◌∙◌, arith}
+use Rattle.std.specs.List.{flat_map}
+use Rattle.std.proofs.lemmas.Bool.{cases_lt}
+use Rattle.std.proofs.lemmas.List.{length-append, length-map}
+use Rattle.pred_inline.specs.Inlined.{before_each, choices}
+use Rattle.pred_inline.specs.declared.case.Case.{Case}
+
+product : (inner : List (List Case)) (cases : List Case) → length (flat_map (before_each inner) cases) ≡ length cases * length inner
+product inner [] = refl
+product inner (case ∷ cases) =
+    let one : length (before_each inner case) ≡ length inner = length-map inner (λ rest. case ∷ rest) in
+    let rest : length (flat_map (before_each inner) cases) ≡ length cases * length inner = product inner cases in
+    length-append (before_each inner case) (flat_map (before_each inner) cases)
+    ∙ ap (λ n. n + length (flat_map (before_each inner) cases)) one
+    ∙ ap (λ n. length inner + n) rest
+
+above : (m a b : ℕ) → m < b → min (a * min b m) m ≡ min (a * b) m
+above m zero b h = refl
+above m (suc a) b h =
+    let e : min b m ≡ m = omega arith in
+    rw e (omega arith)
+
+below : (m a b : ℕ) → b ≤ m → min (a * min b m) m ≡ min (a * b) m
+below m a b h =
+    let e : min b m ≡ b = omega arith in
+    ap (λ x. min (a * x) m) e
+
+capped : (m a b : ℕ) → min (a * min b m) m ≡ min (a * b) m
+capped m a b = elim (cases_lt m b) [ inl h ↦ above m a b h | inr h ↦ below m a b h ]
+
+pub counted : (m : ℕ) (cases : List Case) (rest : List (List Case)) → min (length cases * min (length (choices rest)) m) m ≡ min (length (choices (cases ∷ rest))) m
+counted m cases rest =
+    capped m (length cases) (length (choices rest))
+    ∙ ap (λ n. min n m) (sym (product (choices rest) cases))

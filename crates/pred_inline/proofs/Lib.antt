@@ -1,0 +1,3 @@
+pub mod Counted
+pub mod Limits
+pub mod Outside
