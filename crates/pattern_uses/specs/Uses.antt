@@ -109,14 +109,25 @@ cap_at_in_node own = fold-PatNode (Option Cap) (Option Cap) (cap_in_layer own) c
 
 -- this pattern in the place of a label
 abbrev pub put_layer : Name → Pat → Pat-F Pat PatNode → Pat
-put_layer own new (layer.Hole cap) = pat.Hole cap
-put_layer own new (layer.Test pred cap) = pat.Test pred cap
-put_layer own new (layer.Call name args cap) =
-    if bytes_eq name own then new else pat.Call name args cap
-put_layer own new (layer.Node node) = pat.Node node
+put_layer own inner (layer.Hole cap) = pat.Hole cap
+put_layer own inner (layer.Test pred cap) = pat.Test pred cap
+put_layer own inner (layer.Call name args cap) =
+    if bytes_eq name own then inner else pat.Call name args cap
+put_layer own inner (layer.Node node) = pat.Node node
+
+abbrev pub put_node_layer : PatNode-F Pat PatNode → PatNode
+put_node_layer node =
+    roll-PatNode (record {
+      op = node.op;
+      flags = node.flags;
+      cap = node.cap;
+      args = node.args;
+      at = node.at;
+      len = node.len;
+    })
 
 abbrev pub put_at : Name → Pat → Pat → Pat
-put_at own new = fold-Pat Pat PatNode (put_layer own new) roll-PatNode
+put_at own inner = fold-Pat Pat PatNode (put_layer own inner) put_node_layer
 
 abbrev pub put_at_in_node : Name → Pat → PatNode → PatNode
-put_at_in_node own new = fold-PatNode Pat PatNode (put_layer own new) roll-PatNode
+put_at_in_node own inner = fold-PatNode Pat PatNode (put_layer own inner) put_node_layer

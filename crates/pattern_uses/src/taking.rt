@@ -5,8 +5,8 @@ ghost use Rattle.pattern_uses.specs.Uses.{all_taken, cap_at, cap_at_in_node, fir
 ghost use Rattle.pattern_uses.specs.Uses.{put_at, put_at_in_node, taken, taken_call};
 ghost use Rattle.pattern_uses.specs.Uses.{taken_from_node, used_by_node, used_predicates};
 
-use crate::labels::{behind, first_label};
 use crate::sharing::copied_cap;
+use crate::use_labels::{behind, first_label};
 use pd_ast::{Cap, Pat, PatNode};
 use pm_items::{Items, Shared};
 use pm_ops::{OutOfMemory, Text};
@@ -70,12 +70,12 @@ fn used_among(alloc: Global, patterns: &[Shared<Pat>]) -> Result<Items<Text>, Ou
 
 /// A pattern with its uses taken out, each of which leaves the next of these labels.
 #[cycle(taken)]
-pub fn taken(alloc: Global, pattern: &Shared<Pat>, names: &[Text]) -> Result<Cut, OutOfMemory>
+pub fn taken(alloc: Global, pattern: &Pat, names: &[Text]) -> Result<Cut, OutOfMemory>
     ensures { IfOk result (λ made. made ≡ taken pattern.now names.now) }
 {
-    match pattern.get() {
+    match pattern {
         Pat::Hole(_) | Pat::Test(_, _) => Ok(Cut {
-            pattern: pattern.share()?,
+            pattern: Shared::new(alloc, pattern.copy(alloc)?)?,
             uses: Items::new(alloc),
         }),
         Pat::Call(_, args, cap) => {
@@ -121,7 +121,7 @@ fn all_taken(alloc: Global, patterns: &[Shared<Pat>], names: &[Text]) -> Result<
     };
     let mut names = names;
     for pattern in patterns {
-        let one = taken(alloc, pattern, names)?;
+        let one = taken(alloc, pattern.get(), names)?;
         names = behind(names, one.uses.len());
         made.patterns.push(one.pattern)?;
         made.uses.append(one.uses)?;
@@ -192,24 +192,24 @@ fn cap_among(
 #[cycle(put_at)]
 pub fn put_at(
     alloc: Global,
-    pattern: &Shared<Pat>,
+    pattern: &Pat,
     label: &Text,
-    new: &Shared<Pat>,
+    inner: &Shared<Pat>,
 ) -> Result<Shared<Pat>, OutOfMemory>
-    ensures { IfOk result (λ made. made ≡ put_at label.now new.now pattern.now) }
+    ensures { IfOk result (λ made. made ≡ put_at label.now inner.now pattern.now) }
 {
-    match pattern.get() {
-        Pat::Hole(_) | Pat::Test(_, _) => Ok(pattern.share()?),
+    match pattern {
+        Pat::Hole(_) | Pat::Test(_, _) => Ok(Shared::new(alloc, pattern.copy(alloc)?)?),
         Pat::Call(name, args, cap) => {
             if name.bytes() == label.bytes() {
-                return Ok(new.share()?);
+                return Ok(inner.share()?);
             }
-            let args = put_among(alloc, args.as_slice(), label, new)?;
+            let args = put_among(alloc, args.as_slice(), label, inner)?;
             let made = Pat::Call(name.copy(alloc)?, args, copied_cap(alloc, cap)?);
             Ok(Shared::new(alloc, made)?)
         }
         Pat::Node(node) => {
-            let made = put_at_in_node(alloc, node, label, new)?;
+            let made = put_at_in_node(alloc, node, label, inner)?;
             Ok(Shared::new(alloc, Pat::Node(made))?)
         }
     }
@@ -220,15 +220,15 @@ fn put_at_in_node(
     alloc: Global,
     node: &PatNode,
     label: &Text,
-    new: &Shared<Pat>,
+    inner: &Shared<Pat>,
 ) -> Result<PatNode, OutOfMemory>
-    ensures { IfOk result (λ made. made ≡ put_at_in_node label.now new.now node.now) }
+    ensures { IfOk result (λ made. made ≡ put_at_in_node label.now inner.now node.now) }
 {
     Ok(PatNode {
         op: node.op.copy(alloc)?,
         flags: node.flags,
         cap: copied_cap(alloc, &node.cap)?,
-        args: put_among(alloc, node.args.as_slice(), label, new)?,
+        args: put_among(alloc, node.args.as_slice(), label, inner)?,
         at: node.at,
         len: node.len,
     })
@@ -239,13 +239,13 @@ fn put_among(
     alloc: Global,
     patterns: &[Shared<Pat>],
     label: &Text,
-    new: &Shared<Pat>,
+    inner: &Shared<Pat>,
 ) -> Result<Items<Shared<Pat>>, OutOfMemory>
-    ensures { IfOk result (λ made. made ≡ map (put_at label.now new.now) patterns.now) }
+    ensures { IfOk result (λ made. made ≡ map (put_at label.now inner.now) patterns.now) }
 {
     let mut made = Items::new(alloc);
     for pattern in patterns {
-        made.push(put_at(alloc, pattern, label, new)?)?;
+        made.push(put_at(alloc, pattern.get(), label, inner)?)?;
     }
     Ok(made)
 }
