@@ -158,7 +158,7 @@ fn begun(
 {
     let names = used_predicates(alloc, pattern.get())?;
     let names = labels(alloc, names.as_slice())?;
-    let out = taken(alloc, pattern, names.as_slice())?;
+    let out = taken(alloc, pattern.get(), names.as_slice())?;
     Ok(Opened {
         pattern: out.pattern,
         args: Items::new(alloc),

@@ -208,7 +208,7 @@ fn placed(
     let mut tails = row.tails;
     tails.push(tail)?;
     Ok(Opened {
-        pattern: put_at(alloc, &row.pattern, label, new)?,
+        pattern: put_at(alloc, row.pattern.get(), label, new)?,
         args: Items::new(alloc),
         uses: row.uses,
         tails,
