@@ -1,5 +1,5 @@
 -- How many choices there are of a case of each of several predicates.
-use Rattle.std.proofs.Common.{◌≡◌, ℕ, ◌+◌, ◌*◌, ◌≤◌, ◌<◌, inl, inr, min, List, [], ◌∷◌, ◌++◌, length, map, refl, sym, ap, ◌∙◌, arith}
+use Rattle.std.proofs.Common.{◌≡◌, ℕ, zero, suc, ◌*◌, ◌≤◌, ◌<◌, inl, inr, min, List, [], ◌∷◌, length, map, sym, ap, ◌∙◌, arith}
 use Rattle.std.specs.List.{flat_map}
 use Rattle.std.proofs.lemmas.Bool.{cases_lt}
 use Rattle.std.proofs.lemmas.List.{length-append, length-map}
@@ -7,16 +7,15 @@ use Rattle.pred_inline.specs.Inlined.{before_each, choices}
 use Rattle.pred_inline.specs.declared.case.Case.{Case}
 
 product : (inner : List (List Case)) (cases : List Case) → length (flat_map (before_each inner) cases) ≡ length cases * length inner
-product inner [] = refl
+product inner [] = omega arith
 product inner (case ∷ cases) =
-    let one : length (before_each inner case) ≡ length inner = length-map inner (λ rest. case ∷ rest) in
-    let rest : length (flat_map (before_each inner) cases) ≡ length cases * length inner = product inner cases in
-    length-append (before_each inner case) (flat_map (before_each inner) cases)
-    ∙ ap (λ n. n + length (flat_map (before_each inner) cases)) one
-    ∙ ap (λ n. length inner + n) rest
+    let one = length-map inner (λ rest. case ∷ rest) in
+    let all = length-append (before_each inner case) (flat_map (before_each inner) cases) in
+    let rest = product inner cases in
+    omega arith
 
 above : (m a b : ℕ) → m < b → min (a * min b m) m ≡ min (a * b) m
-above m zero b h = refl
+above m zero b h = omega arith
 above m (suc a) b h =
     let e : min b m ≡ m = omega arith in
     rw e (omega arith)

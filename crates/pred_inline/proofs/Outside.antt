@@ -1,5 +1,5 @@
 -- So many conditions stand outside: none, or one and those behind it.
-use Rattle.std.proofs.Common.{◌≡◌, ℕ, ◌-◌, ◌<◌, List, refl, ap, arith}
+use Rattle.std.proofs.Common.{◌≡◌, ℕ, zero, suc, ◌-◌, ◌<◌, List, refl, ap, arith}
 use Rattle.pd_ast.specs.declared.result.Out.{Out, out-Out}
 use Rattle.pd_ast.specs.declared.result.Tail.{Tail, out-Tail}
 use Rattle.pred_inline.specs.Inlined.{all_before, all_round, behind, behind_layer, inside, inside_layer}

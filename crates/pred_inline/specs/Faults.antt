@@ -8,7 +8,7 @@ use Rattle.pm_places.specs.Judging as judging
 use Rattle.pd_ast.specs.declared.form.Row.{Row}
 use Rattle.pd_ast.specs.declared.pattern.Pat.{Pat}
 use Rattle.pattern_uses.specs.Counts.{capture_count, operations}
-use Rattle.pred_inline.specs.Inlined.{cases_inlined, cases_of_uses, choices, rows_inlined}
+use Rattle.pred_inline.specs.Inlined.{case_by, cases_of_uses, choices, row_by}
 use Rattle.pred_inline.specs.declared.case.Case.{Case}
 use Rattle.pred_inline.specs.declared.case.Predicate.{Predicate}
 
@@ -31,16 +31,25 @@ abbrev pub many_fault : ℕ → ℕ → Option PatternFault
 many_fault at count =
     if nat_lt 65536 count then Some (record { kind = TooManyRows; at = at; len = 1 }) else None
 
+-- the first row or case by these choices that breaks a limit
+abbrev pub rows_limit : Row → ℕ → List (List Case) → Option PatternFault
+rows_limit row conditions chosen =
+    first_fault (map (λ (one : Row). limit_fault row.at one.pattern) (map (row_by row conditions) chosen))
+
+abbrev pub cases_limit : Case → ℕ → List (List Case) → Option PatternFault
+cases_limit case conditions chosen =
+    first_fault (map (λ (one : Case). limit_fault case.row.at one.row.pattern) (map (case_by case conditions) chosen))
+
 -- too many choices, then the first row or case that breaks a limit
 abbrev pub rows_fault : List Predicate → Row → ℕ → Option PatternFault
 rows_fault preds row conditions =
     or_fault (many_fault row.at (length (choices (cases_of_uses preds row.pattern))))
-    (first_fault (map (λ (one : Row). limit_fault row.at one.pattern) (rows_inlined preds row conditions)))
+    (rows_limit row conditions (choices (cases_of_uses preds row.pattern)))
 
 abbrev pub cases_fault : List Predicate → Case → ℕ → Option PatternFault
 cases_fault preds case conditions =
     or_fault (many_fault case.row.at (length (choices (cases_of_uses preds case.row.pattern))))
-    (first_fault (map (λ (one : Case). limit_fault case.row.at one.row.pattern) (cases_inlined preds case conditions)))
+    (cases_limit case conditions (choices (cases_of_uses preds case.row.pattern)))
 
 abbrev pub is_memory_kind : PatternKind → Bool
 is_memory_kind Memory = true

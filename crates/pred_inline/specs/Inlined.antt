@@ -1,5 +1,5 @@
 -- The rows of a row, and the cases of a case, by the cases of the predicates that it uses.
-use Rattle.std.specs.Prelude.{ℕ, zero, suc, ◌+◌, List, [], ◌∷◌, map, Option, Some, None, find}
+use Rattle.std.specs.Prelude.{ℕ, zero, suc, ◌+◌, Bool, List, [], ◌∷◌, map, Option, Some, None, find}
 use Rattle.std.specs.List.{flat_map}
 use Rattle.std.specs.Str.{bytes_eq}
 use Rattle.pm_ops.specs.Names.{Name}
@@ -110,7 +110,7 @@ row_finished row conditions done = record {
   result = inside conditions done.tails (result_changed done.changes row.result);
 }
 
-abbrev pub row_by : Row → ℕ → List Case → Row
+unfoldable pub row_by : Row → ℕ → List Case → Row
 row_by row conditions cases =
     row_finished row conditions (all_inlined 0 cases (begun row.pattern [] []))
 
@@ -126,7 +126,7 @@ case_finished case conditions done = record {
   };
 }
 
-abbrev pub case_by : Case → ℕ → List Case → Case
+unfoldable pub case_by : Case → ℕ → List Case → Case
 case_by case conditions cases =
     case_finished case conditions (all_inlined 0 cases (begun case.row.pattern case.params case.same))
 
@@ -135,8 +135,14 @@ abbrev pub cases_or_none : Option Predicate → List Case
 cases_or_none None = []
 cases_or_none (Some predicate) = predicate.cases
 
+abbrev pub is_named : Name → Predicate → Bool
+is_named name one = bytes_eq one.name name
+
+abbrev pub predicate_named : List Predicate → Name → Option Predicate
+predicate_named preds name = find (is_named name) preds
+
 abbrev pub cases_named : List Predicate → Name → List Case
-cases_named preds name = cases_or_none (find (λ one. bytes_eq one.name name) preds)
+cases_named preds name = cases_or_none (predicate_named preds name)
 
 abbrev pub cases_of_uses : List Predicate → Pat → List (List Case)
 cases_of_uses preds pattern = map (cases_named preds) (used_predicates pattern)

@@ -23,7 +23,7 @@ abbrev pub args_of : Option (List Pat) → List Pat
 args_of None = []
 args_of (Some args) = args
 
-abbrev pub taken_up : ℕ → Opened → Opened
+unfoldable pub taken_up : ℕ → Opened → Opened
 taken_up i row = with_args (args_of (slice_get row.uses i)) row
 
 -- the capture of the use, which gets `j.` where it has none and the case asks about `t` or `type`
@@ -41,7 +41,7 @@ stay_two params first second =
     not (bytes_eq first second) && list_any (bytes_eq first) params && list_any (bytes_eq second) params
 
 -- a pattern in the place of the use, with the end of the case
-abbrev pub placed : Name → Pat → Tail → Opened → Opened
+unfoldable pub placed : Name → Pat → Tail → Opened → Opened
 placed own new rest row = record {
   pattern = put_at own new row.pattern;
   args = [];
@@ -52,7 +52,7 @@ placed own new rest row = record {
   same = row.same;
 }
 
-abbrev pub with_pair : Name → Name → Opened → Opened
+unfoldable pub with_pair : Name → Name → Opened → Opened
 with_pair first second row = record {
   pattern = row.pattern;
   args = row.args;
@@ -63,7 +63,7 @@ with_pair first second row = record {
   same = row.same ++ record { first = first; second = second } ∷ [];
 }
 
-abbrev pub placed_twice : Name → Pat → Tail → Cap → Cap → Opened → Opened
+unfoldable pub placed_twice : Name → Pat → Tail → Cap → Cap → Opened → Opened
 placed_twice own new rest cap inner row =
     if stay_two row.params inner.name cap.name
     then with_pair inner.name cap.name (placed own new rest row)
@@ -71,21 +71,21 @@ placed_twice own new rest cap inner row =
 
 -- The capture of the use goes on the pattern that stands for it. Where that has one of its own, both
 -- become that of the use; two parameters stay two names, and their pair is kept.
-abbrev pub placed_with : Name → Pat → Tail → Option Cap → Option Cap → Opened → Opened
+unfoldable pub placed_with : Name → Pat → Tail → Option Cap → Option Cap → Opened → Opened
 placed_with own new rest None inner row = placed own new rest row
 placed_with own new rest (Some cap) None row = placed own (captured cap new) rest row
 placed_with own new rest (Some cap) (Some inner) row = placed_twice own new rest cap inner row
 
 -- the pattern and the end of the case, as they stand for the use
-abbrev pub case_placed : Name → Renaming → Case → Option Cap → Opened → Opened
+unfoldable pub case_placed : Name → Renaming → Case → Option Cap → Opened → Opened
 case_placed own by case cap row =
     let new = case_filled by case row.args in
     placed_with own new (tail_with by case.row.tail) cap (capture_of new) row
 
-abbrev pub use_placed : Name → Case → Option Cap → Opened → Opened
+unfoldable pub use_placed : Name → Case → Option Cap → Opened → Opened
 use_placed own case cap row = case_placed own (naming own case row.args (name_of cap)) case cap row
 
-abbrev pub one_inlined : ℕ → Case → Opened → Opened
+unfoldable pub one_inlined : ℕ → Case → Opened → Opened
 one_inlined i case row =
     let one = pairs_united case.params case.same (taken_up i row) in
     let own = label i in

@@ -26,19 +26,22 @@ pair_with by pair =
 
 -- the whole row with the change made, the arguments of its uses included; the result or end
 -- of the row has it to come
-abbrev pub changed : Renamed → Opened → Opened
-changed one row = record {
-  pattern = pattern_with (only one) row.pattern;
-  args = map (pattern_with (only one)) row.args;
-  uses = map (map (pattern_with (only one))) row.uses;
-  tails = map (tail_with (only one)) row.tails;
+unfoldable pub changed_by : Renaming → Renamed → Opened → Opened
+changed_by by one row = record {
+  pattern = pattern_with by row.pattern;
+  args = map (pattern_with by) row.args;
+  uses = map (map (pattern_with by)) row.uses;
+  tails = map (tail_with by) row.tails;
   changes = row.changes ++ one ∷ [];
-  params = map (name_with (only one)) row.params;
-  same = map (pair_with (only one)) row.same;
+  params = map (name_with by) row.params;
+  same = map (pair_with by) row.same;
 }
 
+abbrev pub changed : Renamed → Opened → Opened
+changed one row = changed_by (only one) one row
+
 -- Two captures become one: the first is called as the second in the whole row.
-abbrev pub united : Name → Name → Opened → Opened
+unfoldable pub united : Name → Name → Opened → Opened
 united first second row =
     if bytes_eq first second then row else changed (change first second) row
 

@@ -1,7 +1,9 @@
 //! A choice of a case for each use.
 ghost use Rattle.std.specs.Prelude.{◌≡◌, ◌-◌, ◌^◌, [], ◌∷◌, length, map, min, IfOk};
 ghost use Rattle.std.specs.List.{flat_map};
-ghost use Rattle.pred_inline.specs.Inlined.{before_each, cases_named, choices};
+ghost use Rattle.std.specs.Option.{option_copied};
+ghost use Rattle.pred_inline.specs.Inlined.{before_each, cases_named, cases_or_none, choices};
+ghost use Rattle.pred_inline.specs.Inlined.{predicate_named};
 
 use crate::case::{Case, Predicate};
 use pm_items::{Items, Shared};
@@ -12,7 +14,20 @@ use std::alloc::Global;
 fn cases_named<'a>(preds: &'a [Predicate], name: &Text) -> &'a [Shared<Case>]
     ensures { result.now ≡ cases_named preds.now name.now }
 {
-    match preds.iter().find(|one| one.name.bytes() == name.bytes()) {
+    cases_or_none(predicate_named(preds, name))
+}
+
+/// The first predicate of that name.
+fn predicate_named<'a>(preds: &'a [Predicate], name: &Text) -> Option<&'a Predicate>
+    ensures { option_copied result ≡ predicate_named preds.now name.now }
+{
+    preds.iter().find(|one| one.name.bytes() == name.bytes())
+}
+
+fn cases_or_none<'a>(predicate: Option<&'a Predicate>) -> &'a [Shared<Case>]
+    ensures { result.now ≡ cases_or_none (option_copied predicate.entry) }
+{
+    match predicate {
         Some(predicate) => predicate.cases.as_slice(),
         None => &[],
     }

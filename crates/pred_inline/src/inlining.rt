@@ -1,11 +1,9 @@
 //! Rows and cases without uses of predicates.
 ghost use Rattle.std.specs.Prelude.{◌≡◌, map, IfOk};
-ghost use Rattle.pm_places.specs.FirstFaults.{first_fault};
-ghost use Rattle.pd_ast.specs.declared.form.Row.{Row};
-ghost use Rattle.pred_inline.specs.Faults.{cases_fault, limit_fault, rows_fault, Judges};
+ghost use Rattle.pm_places.specs.FirstFaults.{or_fault};
+ghost use Rattle.pred_inline.specs.Faults.{cases_fault, cases_limit, rows_fault, rows_limit, Judges};
 ghost use Rattle.pred_inline.specs.Inlined.{all_inlined, begun, case_by, cases_inlined, row_by};
-ghost use Rattle.pred_inline.specs.Inlined.{rows_inlined};
-ghost use Rattle.pred_inline.specs.declared.case.Case.{Case};
+ghost use Rattle.pred_inline.specs.Inlined.{cases_named, choices, rows_inlined};
 
 use crate::case::{Case, Pair, Predicate};
 use crate::choices::choices;
@@ -36,10 +34,27 @@ pub fn inline(
     ensures value { IfOk result (λ made. made ≡ rows_inlined preds.now row.now conditions) }
 {
     let names = used_predicates(alloc, row.pattern.get())?;
-    match many_fault(row.at, preds, names.as_slice()) {
+    let fault = many_fault(row.at, preds, names.as_slice());
+    rows_unless(alloc, fault, row, conditions, preds, names.as_slice())
+}
+
+fn rows_unless(
+    alloc: Global,
+    fault: Option<PatternFault>,
+    row: &Row,
+    conditions: usize,
+    preds: &[Predicate],
+    names: &[Text],
+) -> Result<Items<Row>, PatternFault>
+    ensures fault { Judges (or_fault fault
+        (rows_limit row.now conditions (choices (map (cases_named preds.now) names.now)))) result }
+    ensures value { IfOk result (λ made. made ≡
+        map (row_by row.now conditions) (choices (map (cases_named preds.now) names.now))) }
+{
+    match fault {
         Some(fault) => Err(fault),
         None => {
-            let choices = choices(alloc, preds, names.as_slice())?;
+            let choices = choices(alloc, preds, names)?;
             rows_by(alloc, row, conditions, choices.as_slice())
         }
     }
@@ -51,8 +66,7 @@ fn rows_by(
     conditions: usize,
     choices: &[Items<Shared<Case>>],
 ) -> Result<Items<Row>, PatternFault>
-    ensures fault { Judges (first_fault (map (λ (one : Row). limit_fault row.now.at one.pattern)
-        (map (row_by row.now conditions) choices.now))) result }
+    ensures fault { Judges (rows_limit row.now conditions choices.now) result }
     ensures value { IfOk result (λ made. made ≡ map (row_by row.now conditions) choices.now) }
 {
     let mut made = Items::new(alloc);
@@ -66,6 +80,7 @@ fn rows_by(
     Ok(made)
 }
 
+#[tactic(auto, unfolding(crate::specs::Inlined::row_by))]
 fn row_by(
     alloc: Global,
     row: &Row,
@@ -90,10 +105,27 @@ pub fn inline_case(
     ensures value { IfOk result (λ made. made ≡ cases_inlined preds.now case.now conditions) }
 {
     let names = used_predicates(alloc, case.row.pattern.get())?;
-    match many_fault(case.row.at, preds, names.as_slice()) {
+    let fault = many_fault(case.row.at, preds, names.as_slice());
+    cases_unless(alloc, fault, case, conditions, preds, names.as_slice())
+}
+
+fn cases_unless(
+    alloc: Global,
+    fault: Option<PatternFault>,
+    case: &Case,
+    conditions: usize,
+    preds: &[Predicate],
+    names: &[Text],
+) -> Result<Items<Case>, PatternFault>
+    ensures fault { Judges (or_fault fault
+        (cases_limit case.now conditions (choices (map (cases_named preds.now) names.now)))) result }
+    ensures value { IfOk result (λ made. made ≡
+        map (case_by case.now conditions) (choices (map (cases_named preds.now) names.now))) }
+{
+    match fault {
         Some(fault) => Err(fault),
         None => {
-            let choices = choices(alloc, preds, names.as_slice())?;
+            let choices = choices(alloc, preds, names)?;
             cases_by(alloc, case, conditions, choices.as_slice())
         }
     }
@@ -105,8 +137,7 @@ fn cases_by(
     conditions: usize,
     choices: &[Items<Shared<Case>>],
 ) -> Result<Items<Case>, PatternFault>
-    ensures fault { Judges (first_fault (map (λ (one : Case).
-        limit_fault case.now.row.at one.row.pattern) (map (case_by case.now conditions) choices.now))) result }
+    ensures fault { Judges (cases_limit case.now conditions choices.now) result }
     ensures value { IfOk result (λ made. made ≡ map (case_by case.now conditions) choices.now) }
 {
     let mut made = Items::new(alloc);
@@ -120,6 +151,7 @@ fn cases_by(
     Ok(made)
 }
 
+#[tactic(auto, unfolding(crate::specs::Inlined::case_by))]
 fn case_by(
     alloc: Global,
     case: &Case,

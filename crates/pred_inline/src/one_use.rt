@@ -20,6 +20,7 @@ use pm_ops::{OutOfMemory, Text};
 use std::alloc::Global;
 
 /// The row with the use inlined that has so many before it, by a case of its predicate.
+#[tactic(auto, unfolding(crate::specs::OneUse::one_inlined))]
 pub fn one_inlined(alloc: Global, i: usize, case: &Case, row: Opened) -> Result<Opened, OutOfMemory>
     ensures { IfOk result (λ made. made ≡ one_inlined i case.now row) }
 {
@@ -32,6 +33,7 @@ pub fn one_inlined(alloc: Global, i: usize, case: &Case, row: Opened) -> Result<
 }
 
 /// The use is taken up: its arguments.
+#[tactic(auto, unfolding(crate::specs::OneUse::taken_up))]
 fn taken_up(alloc: Global, i: usize, row: Opened) -> Result<Opened, OutOfMemory>
     ensures { IfOk result (λ made. made ≡ taken_up i row) }
 {
@@ -82,6 +84,7 @@ fn use_capture(
     }
 }
 
+#[tactic(auto, unfolding(crate::specs::OneUse::use_placed))]
 fn use_placed(
     alloc: Global,
     label: &Text,
@@ -106,6 +109,7 @@ fn name_of(alloc: Global, cap: &Option<Cap>) -> Result<Option<Text>, OutOfMemory
 }
 
 /// The pattern and the end of the case, as they stand for the use.
+#[tactic(auto, unfolding(crate::specs::OneUse::case_placed))]
 fn case_placed(
     alloc: Global,
     label: &Text,
@@ -123,6 +127,7 @@ fn case_placed(
 }
 
 /// The capture of the use goes on the pattern that stands for it.
+#[tactic(auto, unfolding(crate::specs::OneUse::placed_with))]
 fn placed_with(
     alloc: Global,
     label: &Text,
@@ -148,6 +153,7 @@ fn placed_with(
 
 /// The pattern has a capture of its own: both become that of the use, but two parameters stay two
 /// names.
+#[tactic(auto, unfolding(crate::specs::OneUse::placed_twice))]
 fn placed_twice(
     alloc: Global,
     label: &Text,
@@ -176,6 +182,7 @@ fn stay_two(params: &[Text], first: &Text, second: &Text) -> bool
     first.bytes() != second.bytes() && is_among(first, params) && is_among(second, params)
 }
 
+#[tactic(auto, unfolding(crate::specs::OneUse::with_pair))]
 fn with_pair(alloc: Global, first: &Text, second: &Text, row: Opened) -> Result<Opened, OutOfMemory>
     ensures { IfOk result (λ made. made ≡ with_pair first.now second.now row) }
 {
@@ -196,6 +203,7 @@ fn with_pair(alloc: Global, first: &Text, second: &Text, row: Opened) -> Result<
 }
 
 /// A pattern in the place of the use, with the end of the case.
+#[tactic(auto, unfolding(crate::specs::OneUse::placed))]
 fn placed(
     alloc: Global,
     label: &Text,

@@ -2,7 +2,7 @@
 ghost use Rattle.std.specs.Prelude.{◌≡◌, map, IfOk};
 ghost use Rattle.capture_renaming.specs.Names.{name_with};
 ghost use Rattle.capture_renaming.specs.Trees.{pattern_with, tail_with};
-ghost use Rattle.pred_inline.specs.Opened.{change, changed, only, pair_with, united};
+ghost use Rattle.pred_inline.specs.Opened.{change, changed, changed_by, only, pair_with, united};
 
 use crate::case::Pair;
 use capture_renaming::{Renamed, Renaming, name_with, pattern_with, tail_with};
@@ -58,6 +58,7 @@ pub fn only(alloc: Global, one: &Renamed) -> Result<Renaming, OutOfMemory>
 }
 
 /// Two captures become one: the first is called as the second in the whole row.
+#[tactic(auto, unfolding(crate::specs::Opened::united))]
 pub fn united(
     alloc: Global,
     first: &Text,
@@ -77,17 +78,35 @@ fn changed(alloc: Global, one: Renamed, row: Opened) -> Result<Opened, OutOfMemo
     ensures { IfOk result (λ made. made ≡ changed one row) }
 {
     let by = only(alloc, &one)?;
+    changed_by(alloc, &by, one, row)
+}
+
+#[tactic(auto, unfolding(crate::specs::Opened::changed_by))]
+fn changed_by(
+    alloc: Global,
+    by: &Renaming,
+    one: Renamed,
+    row: Opened,
+) -> Result<Opened, OutOfMemory>
+    ensures { IfOk result (λ made. made ≡ changed_by by.now one row) }
+{
+    let pattern = pattern_with(alloc, by, row.pattern.get())?;
+    let pattern = Shared::new(alloc, pattern)?;
+    let args = patterns_with(alloc, by, row.args.as_slice())?;
+    let uses = uses_with(alloc, by, row.uses.as_slice())?;
+    let tails = tails_with(alloc, by, row.tails.as_slice())?;
+    let params = names_with(alloc, by, row.params.as_slice())?;
+    let same = pairs_with(alloc, by, row.same.as_slice())?;
     let mut changes = row.changes;
     changes.push(one)?;
-    let pattern = pattern_with(alloc, &by, row.pattern.get())?;
     Ok(Opened {
-        pattern: Shared::new(alloc, pattern)?,
-        args: patterns_with(alloc, &by, row.args.as_slice())?,
-        uses: uses_with(alloc, &by, row.uses.as_slice())?,
-        tails: tails_with(alloc, &by, row.tails.as_slice())?,
+        pattern,
+        args,
+        uses,
+        tails,
         changes,
-        params: names_with(alloc, &by, row.params.as_slice())?,
-        same: pairs_with(alloc, &by, row.same.as_slice())?,
+        params,
+        same,
     })
 }
 
