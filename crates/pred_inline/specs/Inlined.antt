@@ -1,5 +1,5 @@
 -- The rows of a row, and the cases of a case, by the cases of the predicates that it uses.
-use Rattle.std.specs.Prelude.{ℕ, zero, suc, ◌+◌, Bool, List, [], ◌∷◌, map, Option, Some, None, find}
+use Rattle.std.specs.Prelude.{ℕ, zero, suc, ◌+◌, ◌-◌, ◌*◌, ◌^◌, min, Bool, List, [], ◌∷◌, length, map, Option, Some, None, find}
 use Rattle.std.specs.List.{flat_map}
 use Rattle.std.specs.Str.{bytes_eq}
 use Rattle.pm_ops.specs.Names.{Name}
@@ -31,6 +31,11 @@ before_each inner case = map (λ rest. case ∷ rest) inner
 abbrev pub choices : List (List Case) → List (List Case)
 choices [] = [] ∷ []
 choices (cases ∷ rest) = flat_map (before_each (choices rest)) cases
+
+-- how many choices there are, each product held at 2^64 - 1
+abbrev pub counted_within : List (List Case) → ℕ
+counted_within [] = 1
+counted_within (cases ∷ rest) = min (length cases * counted_within rest) (2 ^ 64 - 1)
 
 abbrev pub begun : Pat → List Name → List Pair → Opened
 begun pattern params same =

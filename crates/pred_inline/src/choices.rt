@@ -3,7 +3,7 @@ ghost use Rattle.std.specs.Prelude.{◌≡◌, ◌-◌, ◌^◌, [], ◌∷◌, 
 ghost use Rattle.std.specs.List.{flat_map};
 ghost use Rattle.std.specs.Option.{option_copied};
 ghost use Rattle.pred_inline.specs.Inlined.{before_each, cases_named, cases_or_none, choices};
-ghost use Rattle.pred_inline.specs.Inlined.{predicate_named};
+ghost use Rattle.pred_inline.specs.Inlined.{counted_within, predicate_named};
 
 use crate::case::{Case, Predicate};
 use pm_items::{Items, Shared};
@@ -34,15 +34,21 @@ fn cases_or_none<'a>(predicate: Option<&'a Predicate>) -> &'a [Shared<Case>]
 }
 
 /// How many choices there are of a case of each of these predicates. Stands still at 2^64 - 1.
-#[tactic(auto, using(crate::proofs::Counted::counted))]
+#[tactic(auto, using(crate::proofs::Counted::all_counted))]
 pub fn choice_count(preds: &[Predicate], names: &[Text]) -> u64
     ensures { result ≡ min (length (choices (map (cases_named preds.now) names.now))) (2 ^ 64 - 1) }
+{
+    counted_within(preds, names)
+}
+
+fn counted_within(preds: &[Predicate], names: &[Text]) -> u64
+    ensures { result ≡ counted_within (map (cases_named preds.now) names.now) }
 {
     match names {
         [] => 1,
         [name, rest @ ..] => {
             let cases = cases_named(preds, name).len() as u64;
-            cases.saturating_mul(choice_count(preds, rest))
+            cases.saturating_mul(counted_within(preds, rest))
         }
     }
 }
