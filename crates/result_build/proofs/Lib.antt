@@ -1,0 +1,5 @@
+pub mod Folding
+pub mod Operands
+pub mod SameTypes
+pub mod TermTypes
+pub mod TypedLemmas

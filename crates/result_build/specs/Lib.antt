@@ -1,0 +1,5 @@
+pub mod Canons
+pub mod Given
+pub mod Names
+pub mod RawResults
+pub mod TypedResults
