@@ -7,22 +7,24 @@ use pm_wide::{IntType, Operand};
 use std::alloc::Global;
 
 /// Its parameters, each an identifier that is also the letter of a type.
-const PARAMETERS: [&str; 4] = ["x", "u", "b", "c"];
+const PARAMETERS: &str = "x u b c";
 
 /// Its names: the base of version 1, of version 2, and so on. The first four are parameters.
-const BASES: &str = "xubcxxxxxbxu";
+const BASES: &str = "xubcxxxxxbxuucb";
 
 /// Its statements, before the condition `x6 < x5`.
-const STATEMENTS: [&str; 8] = [
-    "x5 plus x1 3x",
-    "x6 mult x5 x5",
-    "x7 x5",
-    "x8 mult x7 x1",
-    "x9 minus 0x x5",
-    "b10 lt x6 x5",
-    "x11 cond b10 x5 x1",
-    "u12 convert x5",
-];
+const STATEMENTS: &str = "\
+x5 plus x1 3x
+x6 mult x5 x5
+x7 x5
+x8 mult x7 x1
+x9 minus 0x x5
+b10 lt x6 x5
+x11 cond b10 x5 x1
+u12 convert x5
+u13 plus u2 u12
+c14 negate c4
+b15 bit_and b3 b10";
 
 /// The statement of a text: the name, and an operation on operands or a copy.
 fn stmt(alloc: Global, text: &str) -> Result<Stmt, OutOfMemory> {
@@ -66,10 +68,22 @@ fn rows(alloc: Global) -> Result<Items<NameRow>, OutOfMemory> {
     Ok(names)
 }
 
+/// Its parameters.
+fn parameters(alloc: Global) -> Result<Items<Decl>, OutOfMemory> {
+    let mut params = Items::new(alloc);
+    for name in PARAMETERS.split(' ') {
+        params.push(Decl {
+            ident: Text::new(alloc, name.as_bytes())?,
+            ty: operand(name).ty(),
+        })?;
+    }
+    Ok(params)
+}
+
 /// Its blocks: the statements under a condition, and a return.
 fn blocks(alloc: Global) -> Result<Items<Block>, OutOfMemory> {
     let mut stmts = Items::new(alloc);
-    for text in STATEMENTS {
+    for text in STATEMENTS.split('\n') {
         stmts.push(stmt(alloc, text)?)?;
     }
     let mut blocks = Items::new(alloc);
@@ -90,17 +104,10 @@ fn blocks(alloc: Global) -> Result<Items<Block>, OutOfMemory> {
 
 /// The function.
 pub(crate) fn sample(alloc: Global) -> Result<Function, OutOfMemory> {
-    let mut params = Items::new(alloc);
-    for name in PARAMETERS {
-        params.push(Decl {
-            ident: Text::new(alloc, name.as_bytes())?,
-            ty: operand(name).ty(),
-        })?;
-    }
     Ok(Function {
         name: Text::new(alloc, b"f")?,
         result: IntType::int(),
-        params,
+        params: parameters(alloc)?,
         decls: Items::new(alloc),
         names: rows(alloc)?,
         blocks: blocks(alloc)?,

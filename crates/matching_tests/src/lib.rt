@@ -1,7 +1,11 @@
-//! Tests of matching and of results: tables over texts of patterns, results and operations, on one
-//! small function.
+//! Tests of matching and of results, over texts of patterns, results and operations, on one small
+//! function.
 #![tactic(auto)]
 
+#[cfg(test)]
+mod builds;
+#[cfg(test)]
+mod canons;
 #[cfg(test)]
 mod functions;
 #[cfg(test)]
@@ -10,3 +14,13 @@ mod matches;
 mod operands;
 #[cfg(test)]
 mod patterns;
+#[cfg(test)]
+mod predicates;
+#[cfg(test)]
+mod results;
+#[cfg(test)]
+mod rewrites;
+#[cfg(test)]
+mod shown;
+#[cfg(test)]
+mod subjects;

@@ -1,182 +1,115 @@
 //! Which row matches, with which captures, and how many tests were asked.
+//!
+//! A line has patterns, a subject, perhaps the number behind which a row is sought, and the row that
+//! matches (0 where none does) with its captures and the count of tests.
 use crate::functions::sample;
-use crate::operands::{operands, shown, type_of_letter};
+use crate::operands::digit;
 use crate::patterns::test_rows;
+use crate::shown::shown_caps;
+use crate::subjects::found_at;
 use gim_ast::Function;
-use gim_terms::{StmtView, has_condition, has_operation};
-use pattern_rows::{Caps, Ledger, Steps, TestRow};
-use pm_ops::{Code, OutOfMemory};
+use pattern_rows::TestRow;
+use pm_ops::OutOfMemory;
 use std::alloc::Global;
+use std::process::Abort;
 use std::test::Fail;
-use tree_matcher::{rows_fit, scan_match};
 
-/// The ledger of these tests.
-#[derive(Drop)]
-struct Counted;
+/// A capture again is the same name, or the same constant of the same type. `@@` goes by the number
+/// of a constant, and the capture stands for its place.
+const CAPTURES: &str = "\
+(plus @0 @0) at plus x1 x1 => 1 x1 in 3
+(plus @0 @0) at plus x1 x5 => 0 in 2
+(plus @0 @0) at plus x1 1x => 0 in 2
+(plus @0 @0) at plus 7x 7x => 1 7x in 3
+(plus @0 @0) at plus 7x 8x => 0 in 2
+(plus @0 @0) at plus 7x 7u => 0 in 2
+(plus @0 @0) at plus 1b 1x => 0 in 2
+(plus @0 @@0) at plus 7x 7u => 1 7u in 3
+(plus @@0 @0) at plus 7x 7u => 1 7x in 3
+(plus @0 @@0) at plus 1b 1r => 1 1r in 3
+(plus @0 @@0) at plus 4294967295x 4294967295u => 0 in 2
+(plus @0 @@0) at plus 255s 4294967295x => 1 4294967295x in 3
+(plus @0 @@0) at plus 255s 255c => 0 in 2
+(plus @0 @@0) at plus x1 x1 => 1 x1 in 3
+(plus @0 @@0) at plus x1 x5 => 0 in 2
+(plus @0 @@0) at plus x1 1x => 0 in 2
+(cond @0 @1 @1) at cond b3 7x 7u => 0 in 2
+(cond @0 @1 @@1) at cond b3 7x 7u => 1 b3 7u in 4";
 
-impl Ledger for Counted {}
+/// Names are looked through to their operations, copies aren't. A row whose outermost pattern is or
+/// has a capture matches nothing.
+const NAMES: &str = "\
+(mult (plus @0 INTEGER_CST) @1) at 1 => 1 x1 x5 in 5
+(mult @1 (plus @0 INTEGER_CST)) at 1 => 1 x5 x1 in 5
+(mult (plus @0 INTEGER_CST) @1) at 3 => 0 in 2
+(plus @0 @1) at 2 => no operation
+(convert (plus@1 @0 INTEGER_CST)) at 7 => 1 x5 x1 in 5
+(cond @0 @1 @2) at 6 => 1 b10 x5 x1 in 4
+(cond (lt @0 @1) @1 @2) at 6 => 1 x6 x5 x1 in 6
+(cond (lt @0 @1) @2 @1) at 6 => 0 in 3
+(cond (lt (mult @0 @0) @0) @0 @1) at 6 => 1 x5 x1 in 8
+(plus @0 @1) at plus x5 3x => 1 x5 3x in 3
+(plus (plus @0 INTEGER_CST@1) @1) at plus x5 3x => 1 x1 3x in 6
+(lt @0 @1) at if => 1 x6 x5 in 3
+(mult@2 @0 @1) at 1 => 0 in 2
+integer_zerop at 1 => 0 in 1
+@0 at 1 => 0 in 1";
 
-/// Patterns; a subject; the number behind which a row is sought; the row that matches (0 where none
-/// does) with its captures; and how many tests were asked.
-const LINES: [(&str, &str, u32, &str, u64); 34] = [
-    // a capture again is the same name, or the same constant of the same type
-    ("(plus @0 @0)", "plus x1 x1", 0, "1 x1", 3),
-    ("(plus @0 @0)", "plus x1 x5", 0, "0", 2),
-    ("(plus @0 @0)", "plus 7x 7x", 0, "1 7x", 3),
-    ("(plus @0 @0)", "plus 7x 7u", 0, "0", 2),
-    // `@@` goes by the number, and the capture stands for its place
-    ("(plus @0 @@0)", "plus 7x 7u", 0, "1 7u", 3),
-    ("(plus @@0 @0)", "plus 7x 7u", 0, "1 7x", 3),
-    ("(plus @0 @@0)", "plus 4294967295x 4294967295u", 0, "0", 2),
-    (
-        "(plus @0 @@0)",
-        "plus 255s 4294967295x",
-        0,
-        "1 4294967295x",
-        3,
-    ),
-    ("(plus @0 @@0)", "plus x1 x1", 0, "1 x1", 3),
-    ("(plus @0 @@0)", "plus x1 1x", 0, "0", 2),
-    // predicates go by the word of each type
-    ("(negate integer_zerop@0)", "negate 0q", 0, "1 0q", 3),
-    ("(negate integer_onep@0)", "negate 1b", 0, "1 1b", 3),
-    ("(negate integer_all_onesp@0)", "negate 1b", 0, "1 1b", 3),
-    (
-        "(negate integer_all_onesp@0)",
-        "negate 255c",
-        0,
-        "1 255c",
-        3,
-    ),
-    ("(negate integer_all_onesp@0)", "negate 255x", 0, "0", 2),
-    (
-        "(negate integer_minus_onep@0)",
-        "negate 255s",
-        0,
-        "1 255s",
-        3,
-    ),
-    ("(negate integer_pow2p@0)", "negate 128s", 0, "1 128s", 3),
-    ("(negate integer_pow2p@0)", "negate 96l", 0, "0", 2),
-    ("(negate integer_truep@0)", "negate u2", 0, "0", 2),
-    ("(negate INTEGER_CST@0)", "negate u2", 0, "0", 2),
-    ("(negate SSA_NAME@0)", "negate u2", 0, "1 u2", 3),
-    // names are looked through to their operations; copies aren't
-    ("(mult (plus @0 INTEGER_CST) @1)", "1", 0, "1 x1 x5", 5),
-    ("(mult (plus @0 INTEGER_CST) @1)", "3", 0, "0", 2),
-    ("(plus @0 @1)", "2", 0, "no operation", 0),
-    ("(convert (plus@1 @0 INTEGER_CST))", "7", 0, "1 x5 x1", 5),
-    // `cond`, with a comparison behind its first operand
-    ("(cond @0 @1 @2)", "6", 0, "1 b10 x5 x1", 4),
-    ("(cond (lt @0 @1) @1 @2)", "6", 0, "1 x6 x5 x1", 6),
-    ("(cond (lt @0 @1) @2 @1)", "6", 0, "0", 3),
-    // the least row behind the number, and a condition as a subject
-    (
-        "(minus @0 integer_zerop);(minus integer_zerop @0);(minus @0 @1)",
-        "4",
-        0,
-        "2 x5",
-        5,
-    ),
-    (
-        "(minus @0 integer_zerop);(minus integer_zerop @0);(minus @0 @1)",
-        "4",
-        2,
-        "3 0x x5",
-        3,
-    ),
-    (
-        "(minus @0 integer_zerop);(minus integer_zerop @0);(minus @0 @1)",
-        "4",
-        3,
-        "0",
-        0,
-    ),
-    ("(lt @0 @0);(lt (mult @0 @0) @0)", "if", 0, "2 x5", 7),
-    // nothing matches where the outermost pattern is or has a capture
-    ("(mult@2 @0 @1)", "1", 0, "0", 2),
-    ("@0", "1", 0, "0", 1),
-];
+/// The least row counts, or the least one behind a number.
+const LEAST: &str = "\
+(minus @0 integer_zerop);(minus integer_zerop @0);(minus @0 @1) at 4 => 2 x5 in 5
+(minus @0 integer_zerop);(minus integer_zerop @0);(minus @0 @1) at 4 behind 2 => 3 0x x5 in 3
+(minus @0 integer_zerop);(minus integer_zerop @0);(minus @0 @1) at 4 behind 3 => 0 in 0
+(minus @0 integer_zerop);(minus integer_zerop @0);(minus @0 @1) at 4 behind 9 => 0 in 0
+(lt @0 @0);(lt (mult @0 @0) @0) at if => 2 x5 in 7
+(plus @0 @1);(plus @1 @0) at 0 => 1 x1 3x in 3";
 
-/// The row of a scan with its captures, and how many tests were asked.
-fn scanned(
-    alloc: Global,
-    rows: &[TestRow],
-    view: &StmtView<'_>,
-    after: u32,
-) -> Result<(String, u64), OutOfMemory> {
-    let mut steps = Steps::new(Counted);
-    if rows.len() > 65_536 || !rows_fit(rows) {
-        return Ok((format!(in alloc; "too many")?, 0));
-    }
-    let found = scan_match(rows, view, Some(after), &mut steps);
-    let text = match found {
-        Some((number, caps)) => with_captures(alloc, number, &caps)?,
-        None => format!(in alloc; "0")?,
-    };
-    Ok((text, steps.made()))
-}
-
-/// A number and what captures stand for.
-fn with_captures(alloc: Global, number: u32, caps: &Caps) -> Result<String, OutOfMemory> {
-    let mut text = format!(in alloc; "{number}")?;
-    for slot in 0..32 {
-        if let Some(operand) = caps.get(slot) {
-            let operand = shown(alloc, operand)?;
-            text = format!(in alloc; "{text} {operand}")?;
-        }
-    }
-    Ok(text)
-}
-
-/// The answer at a subject: the condition, a statement by its place, or a code on operands.
+/// The answer at a subject.
 fn answer(
     alloc: Global,
     function: &Function,
     rows: &[TestRow],
     subject: &str,
     after: u32,
-) -> Result<(String, u64), OutOfMemory> {
-    if !function.well_formed() {
-        return Ok((format!(in alloc; "not well formed")?, 0));
-    }
-    let words: Vec<&str> = subject.split(' ').collect(alloc)?;
-    let first = words.get(0).copied().unwrap_or("");
-    if let Some(code) = Code::from_name(first.as_bytes()) {
-        let args = operands(alloc, words.as_slice(), 1)?;
-        if args.len() == code.arity() as usize {
-            let ty = type_of_letter(b'x');
-            let view = StmtView::of_node(function, code, ty, args.as_slice());
-            return scanned(alloc, rows, &view, after);
+) -> Result<String, OutOfMemory> {
+    let Some(found) = found_at(alloc, function, rows, subject, after)? else {
+        return Ok(String::from_str(alloc, "no operation")?);
+    };
+    match found.row {
+        Some((number, caps)) => {
+            let caps = shown_caps(alloc, &caps)?;
+            Ok(format!(in alloc; "{number}{caps} in {}", found.asked)?)
         }
+        None => Ok(format!(in alloc; "0 in {}", found.asked)?),
     }
-    if first == "if" && has_condition(function, 0) {
-        return scanned(alloc, rows, &StmtView::of_if(function, 0), after);
-    }
-    let place = place_of(first);
-    if has_operation(function, 0, place) {
-        return scanned(alloc, rows, &StmtView::of_stmt(function, 0, place), after);
-    }
-    Ok((format!(in alloc; "no operation")?, 0))
 }
 
-/// The place that a digit is.
-fn place_of(word: &str) -> usize {
-    match word.as_bytes().first() {
-        Some(digit) => usize::from((*digit).wrapping_sub(b'0')),
-        None => usize::MAX,
+/// Each line has its answer.
+fn judge(rt: &impl Abort, alloc: Global, lines: &str) -> Result<(), OutOfMemory> {
+    let function = sample(alloc)?;
+    for line in lines.split('\n') {
+        let (asked, expected) = line.split_once(" => ").unwrap_or((line, ""));
+        let (patterns, place) = asked.split_once(" at ").unwrap_or((asked, ""));
+        let (subject, after) = place.split_once(" behind ").unwrap_or((place, "0"));
+        let rows = test_rows(alloc, patterns)?;
+        let after = u32::from(digit(after));
+        let found = answer(alloc, &function, rows.as_slice(), subject, after)?;
+        assert_eq!(rt; found.as_str(), expected, "{line}");
     }
+    Ok(())
 }
 
 #[test]
-fn rows_match(rt: HostRuntime) -> Result<(), OutOfMemory> {
-    let alloc = rt.alloc();
-    let function = sample(alloc)?;
-    for (patterns, subject, after, found, asked) in LINES {
-        let rows = test_rows(alloc, patterns)?;
-        let (text, steps) = answer(alloc, &function, rows.as_slice(), subject, after)?;
-        assert_eq!(rt; text.as_str(), found, "{patterns} on {subject}");
-        assert_eq!(rt; steps, asked, "{patterns} on {subject}");
-    }
-    Ok(())
+fn captures_again(rt: HostRuntime) -> Result<(), Fail> {
+    Ok(judge(&rt, rt.alloc(), CAPTURES)?)
+}
+
+#[test]
+fn operations_of_names(rt: HostRuntime) -> Result<(), Fail> {
+    Ok(judge(&rt, rt.alloc(), NAMES)?)
+}
+
+#[test]
+fn least_rows(rt: HostRuntime) -> Result<(), Fail> {
+    Ok(judge(&rt, rt.alloc(), LEAST)?)
 }

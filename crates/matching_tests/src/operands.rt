@@ -9,9 +9,13 @@ pub(crate) fn type_of_letter(letter: u8) -> IntType {
         b'b' => IntType::boolean(),
         b's' => IntType::signed_char(),
         b'c' => IntType::unsigned_char(),
+        b'h' => IntType::short(),
+        b't' => IntType::unsigned_short(),
         b'u' => IntType::unsigned_int(),
         b'l' => IntType::long(),
+        b'm' => IntType::unsigned_long(),
         b'q' => IntType::int128(),
+        b'r' => IntType::unsigned_int128(),
         _ => IntType::int(),
     }
 }
@@ -22,9 +26,13 @@ pub(crate) fn letter(ty: IntType) -> char {
         (1, _) => 'b',
         (8, false) => 's',
         (8, true) => 'c',
+        (16, false) => 'h',
+        (16, true) => 't',
         (32, true) => 'u',
-        (64, _) => 'l',
-        (128, _) => 'q',
+        (64, false) => 'l',
+        (64, true) => 'm',
+        (128, false) => 'q',
+        (128, true) => 'r',
         _ => 'x',
     }
 }
@@ -63,11 +71,10 @@ pub(crate) fn operands(
     Ok(list)
 }
 
-/// The text of an operand.
-pub(crate) fn shown(alloc: Global, operand: Operand) -> Result<String, OutOfMemory> {
-    let letter = letter(operand.ty());
-    match operand {
-        Operand::Name(version, _) => Ok(format!(in alloc; "{letter}{version}")?),
-        Operand::Const(word) => Ok(format!(in alloc; "{}{letter}", word.bits())?),
+/// The digit that a text begins with.
+pub(crate) fn digit(text: &str) -> u8 {
+    match text.as_bytes().first() {
+        Some(byte) => byte.wrapping_sub(b'0'),
+        None => u8::MAX,
     }
 }

@@ -1,9 +1,9 @@
 //! Results of texts, as `(plus @0 (negate! (convert:t @1)))`.
 //!
-//! Conditions are `true`, `false` and `unknown`, which has no value. `ifelse` has two parts, `switch`
-//! two cases, `switchelse` one part more. `with` declares `t` as the unsigned type of the width of
-//! `type`, and `with_nothing` as nothing. `{zero}` and `{one_t}` are constants of `type` and of `t`, and
-//! `{nothing}` has no value.
+//! Conditions are `true`, `false`, `unsigned`, which asks this of `type`, and `unknown`, which has no
+//! value. `ifelse` has two parts, `switch` two cases, `switchelse` one part more. `with` declares `t`
+//! as the unsigned type of the width of `type`, and `with_nothing` as nothing. `{@1}` is a capture,
+//! `{zero}` and `{one_t}` are constants of `type` and of `t`, and `{nothing}` has no value.
 use crate::patterns::bare;
 use pd_ast::{CDecl, CExpr, CNode, CType, DeclKind, OpRef, Out, OutNode, SwitchCase};
 use pm_items::{Items, Shared};
@@ -32,21 +32,28 @@ pub(crate) fn result(alloc: Global, text: &str) -> Result<Out, OutOfMemory> {
 
 /// Reads a word.
 fn read_word(alloc: Global, word: &str, made: &mut Made) -> Result<(), OutOfMemory> {
-    if word == "true" || word == "false" {
-        let node = CNode::Truth(word == "true");
-        made.conditions.push(CExpr {
-            node,
-            ty: CType::Truth,
-        })?;
-        return Ok(());
+    match word {
+        "true" => made.conditions.push(truth(true))?,
+        "false" => made.conditions.push(truth(false))?,
+        "unknown" => made.conditions.push(nothing(CType::Truth))?,
+        "unsigned" => {
+            let asked = call(alloc, b"TYPE_UNSIGNED", subject_type(), CType::Truth)?;
+            made.conditions.push(asked)?;
+        }
+        _ => {
+            let out = part(alloc, word, made)?;
+            made.outs.push(out)?;
+        }
     }
-    if word == "unknown" {
-        made.conditions.push(nothing(CType::Truth))?;
-        return Ok(());
-    }
-    let out = part(alloc, word, made)?;
-    made.outs.push(out)?;
     Ok(())
+}
+
+/// A truth.
+fn truth(truth: bool) -> CExpr {
+    CExpr {
+        node: CNode::Truth(truth),
+        ty: CType::Truth,
+    }
 }
 
 /// An expression without a value.
@@ -119,6 +126,12 @@ fn subject_type() -> CExpr {
 
 /// An operand in braces.
 fn brace(alloc: Global, text: &str) -> Result<CExpr, OutOfMemory> {
+    if text == "@1}" {
+        return Ok(CExpr {
+            node: CNode::Capture(Text::new(alloc, b"1")?),
+            ty: CType::Oper,
+        });
+    }
     if text == "zero}" {
         return call(alloc, b"build_zero_cst", subject_type(), CType::Oper);
     }

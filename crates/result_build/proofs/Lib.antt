@@ -2,4 +2,3 @@ pub mod Folding
 pub mod Operands
 pub mod SameTypes
 pub mod TermTypes
-pub mod TypedLemmas

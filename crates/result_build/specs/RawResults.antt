@@ -16,7 +16,8 @@ use Rattle.cond_eval.specs.declared.environment.CEnv.{CEnv}
 use Rattle.result_types.specs.Drafts.{Shape}
 use Rattle.result_build.specs.declared.raw.Raw.{Raw}
 use Rattle.result_build.specs.Given.{given}
-use Rattle.result_build.specs.TypedResults.{typed, marks, outermost_of}
+use Rattle.result_build.specs.Marks.{marks}
+use Rattle.result_build.specs.TypedResults.{typed, outermost_of}
 
 -- the operand that a tree without operations is
 abbrev pub operand_in : Tree → Option Operand

@@ -1,18 +1,18 @@
 //! What a result gives in an environment: the leaf that its conditions choose, with operands in place
 //! of captures and braces.
-ghost use Rattle.std.specs.Prelude.{◌≡◌, IfOk, map};
+ghost use Rattle.std.specs.Prelude.{◌≡◌, IfOk, IfSome, map};
 ghost use Rattle.std.specs.Option.{option_map};
-ghost use Rattle.cond_eval.specs.CValues.{truth_in};
+ghost use Rattle.cond_eval.specs.CValues.{c_value, truth_in};
 ghost use Rattle.cond_eval.specs.Environments.{AreValues};
 ghost use Rattle.result_types.specs.Drafts.{leaf, shape_of};
 ghost use Rattle.result_build.specs.Given.{all_in, first_case, given, given_by_case};
 ghost use Rattle.result_build.specs.Given.{given_by_node, head_of, on_one, on_operands};
-ghost use Rattle.result_build.specs.Given.{on_three, on_two, optional_in};
+ghost use Rattle.result_build.specs.Given.{on_three, on_two, optional_in, where_there};
 
 use crate::names::{operand_in, operand_of, type_written};
 use cond_eval::{CEnv, CValue, declare, eval};
 use pattern_rows::Caps;
-use pd_ast::{OpRef, Out, OutNode, SwitchCase};
+use pd_ast::{CExpr, OpRef, Out, OutNode, SwitchCase};
 use pm_items::{Boxed, Shared};
 use pm_ops::OutOfMemory;
 use pm_wide::{IntType, Operand};
@@ -34,19 +34,36 @@ pub(crate) fn draft_of_result(
         Out::Hole(name) => Ok(as_leaf(operand_of(name, caps, env.captures.as_slice()))),
         Out::Brace(expr) => Ok(as_leaf(operand_in(&eval(expr, env)))),
         Out::Node(node) => draft_of_node(alloc, node, caps, env),
-        Out::If(when, gives, otherwise) => match as_truth(&eval(when, env)) {
+        Out::If(when, gives, otherwise) => match truth_of(when, env) {
             Some(true) => draft_of_result(alloc, gives.get(), caps, env),
             Some(false) => draft_if_there(alloc, otherwise, caps, env),
             None => Ok(None),
         },
-        Out::Switch(cases, otherwise) => match draft_of_cases(alloc, cases.as_slice(), caps, env)? {
-            Some(made) => Ok(made),
-            None => draft_if_there(alloc, otherwise, caps, env),
-        },
-        Out::With(decls, gives) => match declare(alloc, decls.as_slice(), env.copy(alloc)?)? {
-            Some(after) => draft_of_result(alloc, gives.get(), caps, &after),
-            None => Ok(None),
-        },
+        Out::Switch(cases, otherwise) => {
+            draft_of_cases(alloc, cases.as_slice(), otherwise, caps, env)
+        }
+        Out::With(decls, gives) => {
+            let after = declare(alloc, decls.as_slice(), env.copy(alloc)?)?;
+            draft_where_there(alloc, gives.get(), caps, &after)
+        }
+    }
+}
+
+/// What a result gives in an environment that may be absent.
+#[cycle(given)]
+fn draft_where_there(
+    alloc: Global,
+    out: &Out,
+    caps: &Caps,
+    env: &Option<CEnv>,
+) -> Result<Option<Draft>, OutOfMemory>
+    requires { IfSome env.now (λ there. AreValues there.locals) }
+    ensures { IfOk result (λ made.
+        option_map shape_of made ≡ where_there env.now (given caps.now out.now)) }
+{
+    match env {
+        Some(env) => draft_of_result(alloc, out, caps, env),
+        None => Ok(None),
     }
 }
 
@@ -102,26 +119,29 @@ fn draft_of_operands(
     }
 }
 
-/// What the first case gives whose condition isn't false; `None` where all are false.
+/// What the first case gives whose condition isn't false; where all are false, what stands behind
+/// them.
 #[cycle(given)]
 fn draft_of_cases(
     alloc: Global,
     cases: &[SwitchCase],
+    otherwise: &Option<Shared<Out>>,
     caps: &Caps,
     env: &CEnv,
-) -> Result<Option<Option<Draft>>, OutOfMemory>
+) -> Result<Option<Draft>, OutOfMemory>
     requires { AreValues env.now.locals }
-    ensures { IfOk result (λ made. option_map (option_map shape_of) made ≡
-        first_case env.now (map (given_by_case caps.now) cases.now)) }
+    ensures { IfOk result (λ made. option_map shape_of made ≡
+        first_case env.now (map (given_by_case caps.now) cases.now)
+        (optional_in env.now (option_map (given caps.now) otherwise.now))) }
 {
     for case in cases {
-        match as_truth(&eval(&case.when, env)) {
-            Some(true) => return Ok(Some(draft_of_result(alloc, case.gives.get(), caps, env)?)),
+        match truth_of(&case.when, env) {
+            Some(true) => return draft_of_result(alloc, case.gives.get(), caps, env),
             Some(false) => {}
-            None => return Ok(Some(None)),
+            None => return Ok(None),
         }
     }
-    Ok(None)
+    draft_if_there(alloc, otherwise, caps, env)
 }
 
 /// What a result gives that may be absent.
@@ -140,6 +160,14 @@ fn draft_if_there(
         Some(out) => draft_of_result(alloc, out.get(), caps, env),
         None => Ok(None),
     }
+}
+
+/// The truth that a condition has.
+fn truth_of(when: &CExpr, env: &CEnv) -> Option<bool>
+    requires { AreValues env.now.locals }
+    ensures { result ≡ truth_in (c_value env.now when.now) }
+{
+    as_truth(&eval(when, env))
 }
 
 /// The truth that a value is.

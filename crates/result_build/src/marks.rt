@@ -1,45 +1,40 @@
 //! Where the marked operations of a draft stand in its term.
-ghost use Rattle.std.specs.Prelude.{◌≡◌, ◌++◌, OnOk};
+ghost use Rattle.std.specs.Prelude.{◌≡◌, ◌++◌, IfOk, OnOk};
 ghost use Rattle.result_types.specs.Drafts.{shape_of};
-ghost use Rattle.result_build.specs.TypedResults.{mark, marks as marked_in};
+ghost use Rattle.result_build.specs.Marks.{mark, marks as marked_in, operand_place};
 
-use crate::typed::is_dropped;
+use crate::typed::{asked_where, is_dropped};
 use pattern_rows::Place;
 use pm_items::Items;
 use pm_ops::OutOfMemory;
 use pm_wide::IntType;
-use result_types::{Draft, asked_types, own_type, type_where};
+use result_types::{Draft, own_type, type_where};
 use std::alloc::Global;
 
 /// Adds, in preorder, the places of the marked operations of a draft whose term stands at a place.
-#[tactic(auto, using(crate::proofs::TypedLemmas::one_unmarked, crate::proofs::TypedLemmas::one_dropped_marks, crate::proofs::TypedLemmas::one_kept_marks, crate::proofs::TypedLemmas::two_unmarked, crate::proofs::TypedLemmas::two_marks, crate::proofs::TypedLemmas::three_unmarked, crate::proofs::TypedLemmas::three_marks))]
 pub(crate) fn list_marks(
     alloc: Global,
     draft: &Draft,
-    type_asked: Option<IntType>,
+    wanted: Option<IntType>,
     at: &Place,
     marks: &mut Items<Place>,
 ) -> Result<(), OutOfMemory>
     ensures { OnOk result (marks.new ≡
-        marks.old ++ marked_in type_asked at.now (shape_of draft.now)) }
+        marks.old ++ marked_in wanted at.now (shape_of draft.now)) }
 {
-    let ty = type_where(draft, type_asked);
+    let ty = type_where(draft, wanted);
     match draft {
         Draft::Leaf(_) => Ok(()),
         Draft::One(head, a) => {
-            let Some(ty) = ty else { return Ok(()) };
             let own = own_type(a.get());
-            if is_dropped(head.code, ty, own) {
-                return list_marks(alloc, a.get(), None, at, marks);
-            }
-            let asked = asked_types(head.code, ty, own, None);
-            push_mark(alloc, head.must_fold, at, marks)?;
-            let first = at.below(alloc, 0)?;
+            let dropped = is_dropped(head.code, &ty, &own);
+            push_mark(alloc, head.must_fold && !dropped, at, marks)?;
+            let first = place_of_operand(alloc, dropped, at)?;
+            let asked = asked_where(head.code, &ty, &own, &None);
             list_marks(alloc, a.get(), asked.0, &first, marks)
         }
         Draft::Two(head, a, b) => {
-            let Some(ty) = ty else { return Ok(()) };
-            let asked = asked_types(head.code, ty, own_type(a.get()), own_type(b.get()));
+            let asked = asked_where(head.code, &ty, &own_type(a.get()), &own_type(b.get()));
             push_mark(alloc, head.must_fold, at, marks)?;
             let first = at.below(alloc, 0)?;
             list_marks(alloc, a.get(), asked.0, &first, marks)?;
@@ -47,8 +42,7 @@ pub(crate) fn list_marks(
             list_marks(alloc, b.get(), asked.1, &second, marks)
         }
         Draft::Three(head, a, b, c) => {
-            let Some(ty) = ty else { return Ok(()) };
-            let asked = asked_types(head.code, ty, own_type(a.get()), own_type(b.get()));
+            let asked = asked_where(head.code, &ty, &own_type(a.get()), &own_type(b.get()));
             push_mark(alloc, head.must_fold, at, marks)?;
             let first = at.below(alloc, 0)?;
             list_marks(alloc, a.get(), asked.0, &first, marks)?;
@@ -57,6 +51,17 @@ pub(crate) fn list_marks(
             let third = at.below(alloc, 2)?;
             list_marks(alloc, c.get(), asked.2, &third, marks)
         }
+    }
+}
+
+/// Where the operand of an operation stands: in its place, if it is dropped.
+fn place_of_operand(alloc: Global, dropped: bool, at: &Place) -> Result<Place, OutOfMemory>
+    ensures { IfOk result (λ place. place ≡ operand_place dropped at.now) }
+{
+    if dropped {
+        at.copy(alloc)
+    } else {
+        at.below(alloc, 0)
     }
 }
 

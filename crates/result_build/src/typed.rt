@@ -2,8 +2,9 @@
 ghost use Rattle.std.specs.Prelude.{◌≡◌, IfOk};
 ghost use Rattle.pm_wide.specs.Types.{same_type};
 ghost use Rattle.result_types.specs.Drafts.{shape_of};
-ghost use Rattle.result_build.specs.TypedResults.{is_dropped as is_dropped_one, operation};
-ghost use Rattle.result_build.specs.TypedResults.{on_one, on_three, on_two, typed as typed_in};
+ghost use Rattle.result_build.specs.TypedResults.{asked, converted, is_dropped as is_dropped_one};
+ghost use Rattle.result_build.specs.TypedResults.{on_one, on_three, on_two, operation};
+ghost use Rattle.result_build.specs.TypedResults.{typed as typed_in};
 
 use pm_items::Items;
 use pm_ops::{Code, OutOfMemory};
@@ -13,52 +14,61 @@ use result_types::{Draft, asked_types, own_type, type_where};
 use std::alloc::Global;
 
 /// The term of a draft for which a type may be asked, or nothing.
-#[tactic(auto, using(crate::proofs::TypedLemmas::one_untyped, crate::proofs::TypedLemmas::one_dropped, crate::proofs::TypedLemmas::one_kept, crate::proofs::TypedLemmas::two_untyped, crate::proofs::TypedLemmas::two_typed, crate::proofs::TypedLemmas::three_untyped, crate::proofs::TypedLemmas::three_typed))]
 pub(crate) fn term_of(
     alloc: Global,
     draft: &Draft,
-    type_asked: Option<IntType>,
+    wanted: Option<IntType>,
 ) -> Result<Option<Typed>, OutOfMemory>
-    ensures { IfOk result (λ made. made ≡ typed_in type_asked (shape_of draft.now)) }
+    ensures { IfOk result (λ made. made ≡ typed_in wanted (shape_of draft.now)) }
 {
-    let ty = type_where(draft, type_asked);
+    let ty = type_where(draft, wanted);
     match draft {
         Draft::Leaf(operand) => Ok(Some(Typed::leaf(*operand))),
         Draft::One(head, a) => {
-            let Some(ty) = ty else { return Ok(None) };
             let own = own_type(a.get());
-            if is_dropped(head.code, ty, own) {
-                return term_of(alloc, a.get(), None);
-            }
-            let asked = asked_types(head.code, ty, own, None);
+            let asked = asked_where(head.code, &ty, &own, &None);
             let a = term_of(alloc, a.get(), asked.0)?;
-            with_one(alloc, head.code, ty, a)
+            conversion_or(alloc, head.code, &ty, &own, a)
         }
         Draft::Two(head, a, b) => {
-            let Some(ty) = ty else { return Ok(None) };
-            let asked = asked_types(head.code, ty, own_type(a.get()), own_type(b.get()));
+            let asked = asked_where(head.code, &ty, &own_type(a.get()), &own_type(b.get()));
             let a = term_of(alloc, a.get(), asked.0)?;
             let b = term_of(alloc, b.get(), asked.1)?;
-            with_two(alloc, head.code, ty, a, b)
+            with_two(alloc, head.code, &ty, a, b)
         }
         Draft::Three(head, a, b, c) => {
-            let Some(ty) = ty else { return Ok(None) };
-            let asked = asked_types(head.code, ty, own_type(a.get()), own_type(b.get()));
+            let asked = asked_where(head.code, &ty, &own_type(a.get()), &own_type(b.get()));
             let a = term_of(alloc, a.get(), asked.0)?;
             let b = term_of(alloc, b.get(), asked.1)?;
             let c = term_of(alloc, c.get(), asked.2)?;
-            with_three(alloc, head.code, ty, a, b, c)
+            with_three(alloc, head.code, &ty, a, b, c)
         }
     }
 }
 
-/// Whether a conversion is one to the type that its operand has of its own.
-pub(crate) fn is_dropped(code: Code, ty: IntType, own: Option<IntType>) -> bool
-    ensures { result ≡ is_dropped_one code ty own }
+/// What an operation of a type that may be absent asks of its operands.
+pub(crate) fn asked_where(
+    code: Code,
+    ty: &Option<IntType>,
+    a: &Option<IntType>,
+    b: &Option<IntType>,
+) -> (Option<IntType>, Option<IntType>, Option<IntType>)
+    ensures { result ≡ asked code ty.now a.now b.now }
 {
-    match own {
-        Some(own) => code.same(Code::Convert) && is_same(own, ty),
-        None => false,
+    match ty {
+        Some(ty) => asked_types(code, *ty, *a, *b),
+        None => (None, None, None),
+    }
+}
+
+/// Whether a conversion is one to the type that its operand has of its own.
+pub(crate) fn is_dropped(code: Code, ty: &Option<IntType>, own: &Option<IntType>) -> bool
+    ensures { result ≡ is_dropped_one code ty.now own.now }
+{
+    match (ty, own) {
+        (Some(ty), Some(own)) => code.same(Code::Convert) && is_same(*own, *ty),
+        (Some(_), None) => false,
+        (None, _) => false,
     }
 }
 
@@ -69,52 +79,71 @@ pub(crate) fn is_same(a: IntType, b: IntType) -> bool
     a.bits() == b.bits() && a.unsigned() == b.unsigned()
 }
 
-/// An operation on one term that is there, where it is well typed.
+/// An operation on one term, or that term where the conversion is dropped.
+fn conversion_or(
+    alloc: Global,
+    code: Code,
+    ty: &Option<IntType>,
+    own: &Option<IntType>,
+    a: Option<Typed>,
+) -> Result<Option<Typed>, OutOfMemory>
+    ensures { IfOk result (λ made. made ≡ converted code ty.now own.now a) }
+{
+    if is_dropped(code, ty, own) {
+        return Ok(a);
+    }
+    with_one(alloc, code, ty, a)
+}
+
+/// An operation on one term, where it has a type and the term is there.
 fn with_one(
     alloc: Global,
     code: Code,
-    ty: IntType,
+    ty: &Option<IntType>,
     a: Option<Typed>,
 ) -> Result<Option<Typed>, OutOfMemory>
-    ensures { IfOk result (λ made. made ≡ on_one code ty a) }
+    ensures { IfOk result (λ made. made ≡ on_one code ty.now a) }
 {
+    let Some(ty) = ty else { return Ok(None) };
     let Some(a) = a else { return Ok(None) };
     let args = Items::from_vec(vec![in alloc; a]?);
-    operation_on(alloc, code, ty, args)
+    operation_on(alloc, code, *ty, args)
 }
 
 /// On two terms.
 fn with_two(
     alloc: Global,
     code: Code,
-    ty: IntType,
+    ty: &Option<IntType>,
     a: Option<Typed>,
     b: Option<Typed>,
 ) -> Result<Option<Typed>, OutOfMemory>
-    ensures { IfOk result (λ made. made ≡ on_two code ty a b) }
+    ensures { IfOk result (λ made. made ≡ on_two code ty.now a b) }
 {
+    let Some(ty) = ty else { return Ok(None) };
     let Some(a) = a else { return Ok(None) };
     let Some(b) = b else { return Ok(None) };
     let args = Items::from_vec(vec![in alloc; a, b]?);
-    operation_on(alloc, code, ty, args)
+    operation_on(alloc, code, *ty, args)
 }
 
 /// On three terms.
 fn with_three(
     alloc: Global,
     code: Code,
-    ty: IntType,
+    ty: &Option<IntType>,
     a: Option<Typed>,
     b: Option<Typed>,
     c: Option<Typed>,
 ) -> Result<Option<Typed>, OutOfMemory>
-    ensures { IfOk result (λ made. made ≡ on_three code ty a b c) }
+    ensures { IfOk result (λ made. made ≡ on_three code ty.now a b c) }
 {
+    let Some(ty) = ty else { return Ok(None) };
     let Some(a) = a else { return Ok(None) };
     let Some(b) = b else { return Ok(None) };
     let Some(c) = c else { return Ok(None) };
     let args = Items::from_vec(vec![in alloc; a, b, c]?);
-    operation_on(alloc, code, ty, args)
+    operation_on(alloc, code, *ty, args)
 }
 
 /// An operation on these terms, where it is well typed.
