@@ -1,4 +1,5 @@
 pub mod Folding
 pub mod Operands
+pub mod RawTypes
 pub mod SameTypes
 pub mod TermTypes

@@ -62,11 +62,21 @@ by_truth None gives otherwise = None
 by_truth (Some true) gives otherwise = gives
 by_truth (Some false) gives otherwise = otherwise
 
--- what the first case gives whose condition isn't false, and where all are false, what stands behind
-abbrev pub first_case : CEnv → List (CExpr × Gives) → Option Shape → Option Shape
-first_case env [] behind = behind
-first_case env (case ∷ cases) behind =
-    by_truth (truth_in (c_value env case.0)) (case.1 env) (first_case env cases behind)
+-- what the first case gives whose condition isn't false; none where all are false
+abbrev pub of_case : Option Bool → Option Shape → Option (Option Shape) → Option (Option Shape)
+of_case None gives later = Some None
+of_case (Some true) gives later = Some gives
+of_case (Some false) gives later = later
+
+abbrev pub first_case : CEnv → List (CExpr × Gives) → Option (Option Shape)
+first_case env [] = None
+first_case env (case ∷ cases) =
+    of_case (truth_in (c_value env case.0)) (case.1 env) (first_case env cases)
+
+-- and where all are false, what stands behind them
+abbrev pub or_behind : Option (Option Shape) → Option Shape → Option Shape
+or_behind None behind = behind
+or_behind (Some gives) behind = gives
 
 -- in an environment that may be absent
 abbrev pub where_there : Option CEnv → Gives → Option Shape
@@ -81,7 +91,7 @@ out_step caps (layer.Node gives) env = gives env
 out_step caps (layer.If when gives otherwise) env =
     by_truth (truth_in (c_value env when)) (gives env) (optional_in env otherwise)
 out_step caps (layer.Switch cases otherwise) env =
-    first_case env cases (optional_in env otherwise)
+    or_behind (first_case env cases) (optional_in env otherwise)
 out_step caps (layer.With decls gives) env = where_there (locals_after decls env) gives
 
 abbrev pub node_step : OutNode-F Gives Gives (CExpr × Gives) → CEnv → Option Shape

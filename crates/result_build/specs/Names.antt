@@ -1,6 +1,6 @@
 -- What the names of a result stand for.
-use Rattle.std.specs.Prelude.{◌≡◌, Option, Some, None, List, codes, position, if◌then◌else◌}
-use Rattle.std.specs.Option.{option_map, option_and_then}
+use Rattle.std.specs.Prelude.{ℕ, suc, Option, Some, None, List, [], ◌∷◌, codes, if◌then◌else◌}
+use Rattle.std.specs.Option.{option_map}
 use Rattle.std.specs.Str.{bytes_eq}
 use Rattle.pm_ops.specs.Names.{Name}
 use Rattle.pm_wide.specs.declared.operand.Operand.{Operand}
@@ -12,10 +12,15 @@ use Rattle.cond_eval.specs.declared.value.CValue.{CValue}
 use Rattle.cond_eval.specs.declared.value.CValue.TheVariants.{TypeRef, Oper}
 use Rattle.cond_eval.specs.Environments.{named}
 
--- the operand of a capture: the environment has the captures in the order of their slots
+-- the operand of a capture: the environment has the captures in the order of their slots, here from a
+-- slot on
+abbrev pub captured_from : Caps → ℕ → List (Name × Operand) → Name → Option Operand
+captured_from caps slot [] name = None
+captured_from caps slot (pair ∷ pairs) name =
+    if bytes_eq pair.0 name then held caps slot else captured_from caps (suc slot) pairs name
+
 abbrev pub captured : Caps → List (Name × Operand) → Name → Option Operand
-captured caps captures name =
-    option_and_then (held caps) (position (λ (pair : Name × Operand). bytes_eq pair.0 name) captures)
+captured caps captures name = captured_from caps 0 captures name
 
 -- the type, and the operand, that a value is
 abbrev pub type_in_value : Option CValue → Option Ty

@@ -1,13 +1,13 @@
 -- The raw result of a row: an operand, or an operation over trees, with the places of its marked
 -- operations. It has no numbers of new names.
-use Rattle.std.specs.Prelude.{Option, Some, None, List}
+use Rattle.std.specs.Prelude.{◌≡◌, Option, Some, None, List}
 use Rattle.std.specs.Option.{option_map, option_and_then}
 use Rattle.either.specs.declared.Either.{Either}
 use Rattle.either.specs.declared.Either.TheVariants.{Left, Right}
 use Rattle.pm_wide.specs.declared.operand.Operand.{Operand}
 use Rattle.pm_wide.specs.declared.operand.Operand.TheVariants.{Name, Const}
 use Rattle.pm_wide.specs.Types.{Ty}
-use Rattle.pm_term.specs.Trees.{Tree, name, constant, node}
+use Rattle.pm_term.specs.Trees.{Tree, name, constant, node, type_of}
 use Rattle.pd_ast.specs.declared.result.Out.{Out}
 use Rattle.pattern_rows.specs.declared.caps.Caps.{Caps}
 use Rattle.pattern_rows.specs.declared.row.Place.{Place}
@@ -47,3 +47,8 @@ raw_of t shape = option_and_then raw_of_typed (outermost_of t shape)
 -- of a result, with these captures, where `type` is the subject's type
 abbrev pub raw_result : Out → Caps → CEnv → Option Raw
 raw_result out caps env = option_and_then (raw_of env.ty) (given caps out env)
+
+-- an operation has that type; of an operand nothing is said
+abbrev pub OperationHas : Ty → Either Operand Tree → Type 0
+OperationHas t (Left operand) = Unit {0}
+OperationHas t (Right tree) = type_of tree ≡ t

@@ -39,9 +39,10 @@ pub(crate) fn draft_of_result(
             Some(false) => draft_if_there(alloc, otherwise, caps, env),
             None => Ok(None),
         },
-        Out::Switch(cases, otherwise) => {
-            draft_of_cases(alloc, cases.as_slice(), otherwise, caps, env)
-        }
+        Out::Switch(cases, otherwise) => match draft_of_cases(alloc, cases.as_slice(), caps, env)? {
+            Some(made) => Ok(made),
+            None => draft_if_there(alloc, otherwise, caps, env),
+        },
         Out::With(decls, gives) => {
             let after = declare(alloc, decls.as_slice(), env.copy(alloc)?)?;
             draft_where_there(alloc, gives.get(), caps, &after)
@@ -119,29 +120,26 @@ fn draft_of_operands(
     }
 }
 
-/// What the first case gives whose condition isn't false; where all are false, what stands behind
-/// them.
+/// What the first case gives whose condition isn't false; `None` where all are false.
 #[cycle(given)]
 fn draft_of_cases(
     alloc: Global,
     cases: &[SwitchCase],
-    otherwise: &Option<Shared<Out>>,
     caps: &Caps,
     env: &CEnv,
-) -> Result<Option<Draft>, OutOfMemory>
+) -> Result<Option<Option<Draft>>, OutOfMemory>
     requires { AreValues env.now.locals }
-    ensures { IfOk result (λ made. option_map shape_of made ≡
-        first_case env.now (map (given_by_case caps.now) cases.now)
-        (optional_in env.now (option_map (given caps.now) otherwise.now))) }
+    ensures { IfOk result (λ made. option_map (option_map shape_of) made ≡
+        first_case env.now (map (given_by_case caps.now) cases.now)) }
 {
     for case in cases {
         match truth_of(&case.when, env) {
-            Some(true) => return draft_of_result(alloc, case.gives.get(), caps, env),
+            Some(true) => return Ok(Some(draft_of_result(alloc, case.gives.get(), caps, env)?)),
             Some(false) => {}
-            None => return Ok(None),
+            None => return Ok(Some(None)),
         }
     }
-    draft_if_there(alloc, otherwise, caps, env)
+    Ok(None)
 }
 
 /// What a result gives that may be absent.

@@ -13,10 +13,12 @@ use pm_wide::{IntType, Operand};
 pub(crate) fn operand_of(name: &Text, caps: &Caps, captures: &[(Text, Operand)]) -> Option<Operand>
     ensures { result ≡ captured caps.now captures.now name.now }
 {
-    let slot = captures
-        .iter()
-        .position(|pair| pair.0.bytes() == name.bytes())?;
-    caps.get(slot)
+    for (slot, pair) in captures.iter().enumerate() {
+        if pair.0.bytes() == name.bytes() {
+            return caps.get(slot);
+        }
+    }
+    None
 }
 
 /// The operand that a value is.
