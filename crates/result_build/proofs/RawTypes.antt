@@ -34,7 +34,7 @@ typed_has t s r has made = by (typed None s) refl made
         (body_has t tree (sym (same_Some t (type_of tree) (sym has ∙ term_type None s tree is))))
 
 -- a head of the subject's type
-typed_head : Ty → Head → Head
+abbrev typed_head : Ty → Head → Head
 typed_head t head = record { code = head.code; must_fold = head.must_fold; ty = Some t }
 
 operation_has : (t : Ty) (head : Head) (shape : Head → Shape) (r : Raw) → type_in None (shape (typed_head t head)) ≡ Some t
