@@ -36,9 +36,9 @@ fn captures(
     caps: &Caps,
 ) -> Result<Items<(Text, Operand)>, OutOfMemory> {
     let mut captures = Items::new(alloc);
-    for (slot, (name, _)) in row.holes.as_slice().iter().enumerate() {
+    for (slot, hole) in row.holes.as_slice().iter().enumerate() {
         if let Some(operand) = caps.get(slot) {
-            captures.push((name.copy(alloc)?, operand))?;
+            captures.push((hole.0.copy(alloc)?, operand))?;
         }
     }
     Ok(captures)
@@ -49,7 +49,7 @@ fn given(
     alloc: Global,
     function: &Function,
     pattern: &str,
-    result: &str,
+    gives: &str,
     subject: &str,
 ) -> Result<String, OutOfMemory> {
     let rows = test_rows(alloc, pattern)?;
@@ -63,7 +63,7 @@ fn given(
         return Ok(String::from_str(alloc, "none")?);
     };
     let env = environment(alloc, captures(alloc, row, &caps)?, found.ty)?;
-    let raw = match built(alloc, result, &caps, &env)? {
+    let raw = match built(alloc, gives, &caps, &env)? {
         Some(raw) => shown_raw(alloc, &raw)?,
         None => String::from_str(alloc, "none")?,
     };

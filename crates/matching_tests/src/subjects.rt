@@ -16,6 +16,7 @@ struct Counted;
 impl Ledger for Counted {}
 
 /// What a scan found: the row with its captures, how many tests were asked, and the subject's type.
+#[derive(Drop)]
 pub(crate) struct Found {
     pub(crate) row: Option<(u32, Caps)>,
     pub(crate) asked: u64,
