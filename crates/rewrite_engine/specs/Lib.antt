@@ -1,0 +1,5 @@
+pub mod NewNames
+pub mod Reaches
+pub mod Rewriting
+pub mod Spots
+pub mod Steps
