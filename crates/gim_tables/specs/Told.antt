@@ -54,5 +54,5 @@ abbrev pub TellsAssigned : {S : Type 0} → HashMap ℕ Bool S → Function → 
 TellsAssigned table f = (q : ℕ) → has table q ≡ is_assigned f q
 
 -- a row of `names` is kept, as the tables tell
-abbrev pub row_stays_by : {S : Type 0} → HashMap ℕ ℕ S → HashMap ℕ Bool S → NameRow → Bool
-row_stays_by counts names row = has names row.version || nat_lt 0 (told counts row.version) || is_empty_text row.base
+abbrev pub row_stays_by : {S T : Type 0} → HashMap ℕ ℕ S → HashMap ℕ Bool T → NameRow → Bool
+row_stays_by counts names row = (has names row.version || nat_lt 0 (told counts row.version)) || is_empty_text row.base

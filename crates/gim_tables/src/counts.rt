@@ -1,5 +1,5 @@
 //! How often names are used, counted once for all names.
-ghost use Rattle.std.specs.Prelude.{◌≡◌, ◌==◌, ℕ, ◌+◌, [], ◌∷◌, min, map, if◌then◌else◌, OnOk, IfOk};
+ghost use Rattle.std.specs.Prelude.{◌≡◌, ◌==◌, ℕ, ◌+◌, ◌≤◌, [], ◌∷◌, min, map, if◌then◌else◌, OnOk, IfOk};
 ghost use Rattle.std.specs.List.{count_by, flat_map};
 ghost use Rattle.gim_ast.specs.Functions.{is_name, operands_of_phi, operands_of_stmt};
 ghost use Rattle.gim_ast.specs.Functions.{operands_of_rhs, operands_of_end, operands_of_block};
@@ -11,6 +11,14 @@ use pm_wide::Operand;
 use std::alloc::Global;
 use std::collections::HashMap;
 
+/// The count of a name: 0 where the table has none.
+pub(crate) fn count_of(table: &HashMap<u32, u32>, version: u32) -> u32
+    ensures told { result ≡ told table.now version }
+    ensures fits { result ≤ most }
+{
+    table.get(&version).copied().unwrap_or(0)
+}
+
 /// Counts the uses of names in blocks. A count stands still at the greatest number of the machine.
 pub(crate) fn counts_in(alloc: Global, blocks: &[Block]) -> Result<HashMap<u32, u32>, OutOfMemory>
     ensures { IfOk result (λ table. (q : ℕ) → min (told table q) most ≡
@@ -21,6 +29,7 @@ pub(crate) fn counts_in(alloc: Global, blocks: &[Block]) -> Result<HashMap<u32, 
     Ok(table)
 }
 
+#[tactic(auto, using(crate::proofs::Counting::count_append, crate::proofs::Counting::further))]
 fn count_blocks(table: &mut HashMap<u32, u32>, blocks: &[Block]) -> Result<(), OutOfMemory>
     ensures { OnOk result ((q : ℕ) → min (told table.new q) most ≡
         min (told table.old q + count_by (is_name q) (flat_map operands_of_block blocks.now)) most) }
@@ -31,6 +40,7 @@ fn count_blocks(table: &mut HashMap<u32, u32>, blocks: &[Block]) -> Result<(), O
     Ok(())
 }
 
+#[tactic(auto, using(crate::proofs::Counting::count_append, crate::proofs::Counting::one_then))]
 fn count_block(table: &mut HashMap<u32, u32>, block: &Block) -> Result<(), OutOfMemory>
     ensures { OnOk result ((q : ℕ) → min (told table.new q) most ≡
         min (told table.old q + count_by (is_name q) (operands_of_block block.now)) most) }
@@ -40,6 +50,7 @@ fn count_block(table: &mut HashMap<u32, u32>, block: &Block) -> Result<(), OutOf
     count_end(table, &block.end)
 }
 
+#[tactic(auto, using(crate::proofs::Counting::count_append, crate::proofs::Counting::further))]
 fn count_phis(table: &mut HashMap<u32, u32>, phis: &[Phi]) -> Result<(), OutOfMemory>
     ensures { OnOk result ((q : ℕ) → min (told table.new q) most ≡
         min (told table.old q + count_by (is_name q) (flat_map operands_of_phi phis.now)) most) }
@@ -50,6 +61,7 @@ fn count_phis(table: &mut HashMap<u32, u32>, phis: &[Phi]) -> Result<(), OutOfMe
     Ok(())
 }
 
+#[tactic(auto, using(crate::proofs::Counting::count_first, crate::proofs::Counting::further))]
 fn count_args(table: &mut HashMap<u32, u32>, args: &[(u32, Operand)]) -> Result<(), OutOfMemory>
     ensures { OnOk result ((q : ℕ) → min (told table.new q) most ≡
         min (told table.old q + count_by (is_name q) (map second args.now)) most) }
@@ -60,6 +72,7 @@ fn count_args(table: &mut HashMap<u32, u32>, args: &[(u32, Operand)]) -> Result<
     Ok(())
 }
 
+#[tactic(auto, using(crate::proofs::Counting::count_append, crate::proofs::Counting::further))]
 fn count_stmts(table: &mut HashMap<u32, u32>, stmts: &[Stmt]) -> Result<(), OutOfMemory>
     ensures { OnOk result ((q : ℕ) → min (told table.new q) most ≡
         min (told table.old q + count_by (is_name q) (flat_map operands_of_stmt stmts.now)) most) }
@@ -103,6 +116,7 @@ fn count_pair(
     count_operand(table, right)
 }
 
+#[tactic(auto, using(crate::proofs::Counting::count_first, crate::proofs::Counting::further))]
 fn count_operands(table: &mut HashMap<u32, u32>, operands: &[Operand]) -> Result<(), OutOfMemory>
     ensures { OnOk result ((q : ℕ) → min (told table.new q) most ≡
         min (told table.old q + count_by (is_name q) operands.now) most) }

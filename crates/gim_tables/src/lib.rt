@@ -11,5 +11,5 @@ mod subject;
 mod tables;
 
 pub use removal::tidy;
-//pub use subject::OperationView;
+pub use subject::OperationView;
 pub use tables::Tables;

@@ -13,6 +13,7 @@ use std::alloc::Global;
 use std::collections::HashMap;
 
 /// The right side of the first statement of each name, as a table.
+#[tactic(auto, using(crate::proofs::Firsts::among_block))]
 pub(crate) fn rights_in<'f>(
     alloc: Global,
     blocks: &'f [Block],

@@ -6,7 +6,7 @@ ghost use Rattle.gim_changes.specs.Removal.{last_unused as the_last_unused, prun
 ghost use Rattle.gim_changes.specs.Trimming.{tidied, trimmed};
 ghost use Rattle.gim_tables.specs.Told.{TellsUses, TellsAssigned, row_stays_by};
 
-use crate::counts::counts_in;
+use crate::counts::{count_of, counts_in};
 use crate::standing::assigned_names;
 use gim_ast::{Block, Function, NameRow, Phi, Stmt};
 use gim_changes::remove_name;
@@ -121,11 +121,12 @@ fn last_stmt(
 
 /// Whether a name of the function is used, by the counts.
 #[tactic(auto, using(crate::proofs::Counting::used_by_count))]
-fn is_used(_function: &Function, counts: &HashMap<u32, u32>, name: u32) -> bool
-    requires { TellsUses counts.now _function.now }
-    ensures { result ≡ function_uses _function.now name }
+fn is_used(function: &Function, counts: &HashMap<u32, u32>, name: u32) -> bool
+    requires { TellsUses counts.now function.now }
+    ensures { result ≡ function_uses function.now name }
 {
-    counts.get(&name).copied().unwrap_or(0) > 0
+    let _names = function.names.len();
+    count_of(counts, name) > 0
 }
 
 /// Keeps only the rows of `names` whose names stand somewhere, and those of anonymous names.
@@ -177,6 +178,6 @@ fn stays(counts: &HashMap<u32, u32>, names: &HashMap<u32, bool>, row: &NameRow) 
     ensures { result ≡ row_stays_by counts.now names.now row.now }
 {
     names.contains_key(&row.version)
-        || counts.get(&row.version).copied().unwrap_or(0) > 0
+        || count_of(counts, row.version) > 0
         || row.base.bytes().is_empty()
 }

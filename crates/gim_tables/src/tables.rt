@@ -5,6 +5,7 @@ ghost use Rattle.gim_ast.specs.Functions.{right_of, uses_of};
 ghost use Rattle.gim_ast.specs.WellFormed.{is_well_formed};
 ghost use Rattle.gim_terms.specs.Targets.{type_of_name};
 
+use crate::counts::count_of;
 use crate::places::{rights_in, types_in};
 use crate::removal::uses_in;
 use gim_ast::{Function, Rhs};
@@ -24,17 +25,20 @@ pub struct Tables<'f> {
 }
 
 impl<'f> Model for Tables<'f> {
-    ghost use Rattle.std.specs.Prelude.{IsTrue};
+    ghost use Rattle.std.specs.Prelude.{◌≡◌, ℕ, nat_eq, IsTrue};
+    ghost use Rattle.std.specs.HashMap.{get};
+    ghost use Rattle.std.specs.Option.{option_copied};
     ghost use Rattle.gim_ast.specs.declared.function.Function.{Function as TheFunction};
     ghost use Rattle.gim_ast.specs.WellFormed.{is_well_formed};
-    ghost use Rattle.gim_tables.specs.Told.{TellsRights, TellsTypes, TellsUses};
+    ghost use Rattle.gim_ast.specs.Functions.{right_of};
+    ghost use Rattle.gim_tables.specs.Told.{TellsTypes, TellsUses};
 
     ghost Value = { TheFunction };
 
     ghost view = { λ s. s.function.now };
 
     ghost invariant = { λ s. IsTrue (is_well_formed s.function.now) ×
-        TellsRights s.rights s.function.now × TellsTypes s.types s.function.now ×
+        ((q : ℕ) → option_copied (get nat_eq s.rights q) ≡ right_of s.function.now q) × TellsTypes s.types s.function.now ×
         TellsUses s.uses s.function.now };
 }
 
@@ -74,10 +78,9 @@ impl<'f> Tables<'f> {
     }
 
     /// In how many operand places a name stands.
-    #[tactic(auto, using(crate::proofs::Counting::count_is_uses))]
     pub fn uses(&self, version: u32) -> u32
         ensures { result ≡ uses_of self.now version }
     {
-        self.uses.get(&version).copied().unwrap_or(0)
+        count_of(&self.uses, version)
     }
 }
