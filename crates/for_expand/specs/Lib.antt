@@ -1,0 +1,5 @@
+pub mod Lists
+pub mod Loops
+pub mod Faults
+pub mod Turns
+pub mod Expanded
