@@ -1,5 +1,5 @@
 -- What stands in the place of a name.
-use Rattle.std.specs.Prelude.{ℕ, suc, Bool, true, false, if◌then◌else◌, List, [], ◌∷◌, Option, Some, None, find, slice_get, unwrap_or}
+use Rattle.std.specs.Prelude.{ℕ, suc, Bool, true, false, if◌then◌else◌, List, [], ◌∷◌, ◌++◌, Option, Some, None, find, slice_get, unwrap_or}
 use Rattle.std.specs.Str.{bytes_eq}
 use Rattle.pm_ops.specs.Names.{Name}
 use Rattle.pd_ast.specs.Calls.{call_name}
@@ -52,24 +52,31 @@ new_op by op.Null = None
 abbrev pub op_with : Substitution → OpRef → OpRef
 op_with by own = unwrap_or (new_op by own) own
 
--- the name of a capture
+-- the first of these that tells of a capture
 abbrev pub renaming : List Renamed → Name → Option Renamed
 renaming captures name = find (λ one. bytes_eq one.from name) captures
 
-abbrev pub new_name : Option Renamed → Name → Name
-new_name None name = name
-new_name (Some one) name = one.to
+-- a capture of which nothing is told, behind what is put before all of them
+abbrev pub behind : Option Name → Name → Name
+behind None name = name
+behind (Some prefix) name = prefix ++ name
+
+-- the name of a capture
+abbrev pub new_name : Option Name → Option Renamed → Name → Name
+new_name prefix None name = behind prefix name
+new_name prefix (Some one) name = one.to
 
 abbrev pub name_with : Substitution → Name → Name
-name_with by name = new_name (renaming by.captures name) name
+name_with by name = new_name by.prefix (renaming by.captures name) name
 
 -- the capture itself, which may get another mark with its name
-abbrev pub new_cap : Option Renamed → Cap → Cap
-new_cap None cap = cap
-new_cap (Some one) cap = record { name = one.to; by_value = unwrap_or one.by_value cap.by_value }
+abbrev pub new_cap : Option Name → Option Renamed → Cap → Cap
+new_cap prefix None cap = record { name = behind prefix cap.name; by_value = cap.by_value }
+new_cap prefix (Some one) cap =
+    record { name = one.to; by_value = unwrap_or one.by_value cap.by_value }
 
 abbrev pub cap_with : Substitution → Cap → Cap
-cap_with by cap = new_cap (renaming by.captures cap.name) cap
+cap_with by cap = new_cap by.prefix (renaming by.captures cap.name) cap
 
 -- In C text an identifier of a `for` stands for the code of an operation. `null` has no code.
 abbrev pub c_of : Option Entry → Option CNode

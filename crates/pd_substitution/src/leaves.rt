@@ -1,7 +1,7 @@
 //! Leaves of trees with a substitution made. A call `.._anew` gives none where what it is asked
 //! about stays as it is.
 ghost use Rattle.std.specs.Prelude.{◌≡◌, option_map, unwrap_or, IfOk};
-ghost use Rattle.pd_substitution.specs.Chosen.{cap_with, choice_with, name_with};
+ghost use Rattle.pd_substitution.specs.Chosen.{behind, cap_with, choice_with, name_with};
 ghost use Rattle.pd_substitution.specs.Chosen.{capture_type, subject_type_with, subject_with};
 ghost use Rattle.pd_substitution.specs.Chosen.{c_of};
 ghost use Rattle.pd_ast.specs.declared.c_text.CNode.TheVariants as nodes;
@@ -48,6 +48,24 @@ pub fn name_anew(alloc: Global, by: &Substitution, name: &Text) -> Result<Option
 {
     match renaming(by.captures.as_slice(), name) {
         Some(one) => Ok(Some(one.to.copy(alloc)?)),
+        None => behind_anew(alloc, &by.prefix, name),
+    }
+}
+
+/// A name behind what is put before it.
+fn behind_anew(
+    alloc: Global,
+    prefix: &Option<Text>,
+    name: &Text,
+) -> Result<Option<Text>, OutOfMemory>
+    ensures { IfOk result (λ made. unwrap_or made name.now ≡ behind prefix.now name.now) }
+{
+    match prefix {
+        Some(prefix) => {
+            let mut bytes: Items<u8> = Items::from_slice(alloc, prefix.bytes())?;
+            bytes.extend_from_slice(name.bytes())?;
+            Ok(Some(Text::new(alloc, bytes.as_slice())?))
+        }
         None => Ok(None),
     }
 }
@@ -61,7 +79,13 @@ pub fn cap_anew(alloc: Global, by: &Substitution, cap: &Cap) -> Result<Option<Ca
             name: one.to.copy(alloc)?,
             by_value: mark_of(one.by_value, cap.by_value),
         })),
-        None => Ok(None),
+        None => match behind_anew(alloc, &by.prefix, &cap.name)? {
+            Some(name) => Ok(Some(Cap {
+                name,
+                by_value: cap.by_value,
+            })),
+            None => Ok(None),
+        },
     }
 }
 

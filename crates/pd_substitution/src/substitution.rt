@@ -32,8 +32,10 @@ pub struct Substitution {
     pub names: Shared<Items<Text>>,
     /// The entry for each of these names.
     pub entries: Items<Entry>,
-    /// Captures that get other names.
+    /// Captures that get other names. Of two that tell of one capture the first counts.
     pub captures: Items<Renamed>,
+    /// What is put before the name of every other capture.
+    pub prefix: Option<Text>,
     /// The capture that stands for `t`, and whose type stands for `type`.
     pub subject: Option<Text>,
 }
