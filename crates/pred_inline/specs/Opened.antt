@@ -1,0 +1,79 @@
+-- A row or a case whose uses are inlined, one after the other, and what is done to the whole of it.
+use Rattle.std.specs.Prelude.{if◌then◌else◌, slice_set, List, [], ◌∷◌, ◌++◌, map, Option, Some, None}
+use Rattle.std.specs.Str.{bytes_eq}
+use Rattle.pm_ops.specs.Names.{Name}
+use Rattle.pd_ast.specs.declared.pattern.Cap.{Cap}
+use Rattle.pd_ast.specs.declared.pattern.Pat.{Pat}
+use Rattle.capture_renaming.specs.Names.{name_with}
+use Rattle.capture_renaming.specs.Trees.{pattern_with, tail_with}
+use Rattle.capture_renaming.specs.declared.renaming.Renamed.{Renamed}
+use Rattle.capture_renaming.specs.declared.renaming.Renaming.{Renaming}
+use Rattle.pattern_uses.specs.Captures.{capture_of, captured}
+use Rattle.pred_inline.specs.Arguments.{argument_for, capture_of_argument, place_of}
+use Rattle.pred_inline.specs.declared.case.Pair.{Pair}
+use Rattle.pred_inline.specs.declared.opened.Opened.{Opened}
+
+-- one capture called otherwise, its marks kept
+abbrev pub change : Name → Name → Renamed
+change from to = record { from = from; to = to; by_value = None }
+
+abbrev pub only : Renamed → Renaming
+only one = record { captures = one ∷ []; prefix = None; subject = None }
+
+abbrev pub pair_with : Renaming → Pair → Pair
+pair_with by pair =
+    record { first = name_with by pair.first; second = name_with by pair.second }
+
+-- the whole row with the change made, the arguments of its uses included; the result or end
+-- of the row has it to come
+unfoldable pub changed_by : Renaming → Renamed → Opened → Opened
+changed_by by one row = record {
+  pattern = pattern_with by row.pattern;
+  args = map (pattern_with by) row.args;
+  uses = map (map (pattern_with by)) row.uses;
+  tails = map (tail_with by) row.tails;
+  changes = row.changes ++ one ∷ [];
+  params = map (name_with by) row.params;
+  same = map (pair_with by) row.same;
+}
+
+abbrev pub changed : Renamed → Opened → Opened
+changed one row = changed_by (only one) one row
+
+-- Two captures become one: the first is called as the second in the whole row.
+unfoldable pub united : Name → Name → Opened → Opened
+united first second row =
+    if bytes_eq first second then row else changed (change first second) row
+
+abbrev pub with_args : List Pat → Opened → Opened
+with_args args row = record {
+  pattern = row.pattern;
+  args = args;
+  uses = row.uses;
+  tails = row.tails;
+  changes = row.changes;
+  params = row.params;
+  same = row.same;
+}
+
+-- Two arguments of a use become one: the capture of the first takes the name of that of the second in
+-- the whole row, or where the first has none, it gets that one.
+abbrev pub arg_united : List Name → Name → Pat → Option Cap → Cap → Opened → Opened
+arg_united params name arg (Some own) cap row = united own.name cap.name row
+arg_united params name arg None cap row =
+    with_args (slice_set row.args (place_of params name) (captured cap arg)) row
+
+abbrev pub args_united : List Name → Name → Option Pat → Option Cap → Opened → Opened
+args_united params name None cap row = row
+args_united params name (Some arg) None row = row
+args_united params name (Some arg) (Some cap) row = arg_united params name arg (capture_of arg) cap row
+
+-- those that are one by the pairs of the case
+abbrev pub pair_united : List Name → Pair → Opened → Opened
+pair_united params pair row =
+    args_united params pair.first (argument_for params row.args pair.first)
+    (capture_of_argument (argument_for params row.args pair.second)) row
+
+abbrev pub pairs_united : List Name → List Pair → Opened → Opened
+pairs_united params [] row = row
+pairs_united params (pair ∷ pairs) row = pairs_united params pairs (pair_united params pair row)
