@@ -4,8 +4,8 @@ use Rattle.pm_ops.specs.Names.{Name}
 use Rattle.pd_ast.specs.declared.pattern.Cap.{Cap}
 use Rattle.pd_ast.specs.declared.pattern.Pat.{Pat}
 use Rattle.pd_ast.specs.declared.result.Tail.{Tail}
-use Rattle.capture_renaming.specs.Trees.{tail_with}
-use Rattle.capture_renaming.specs.declared.renaming.Renaming.{Renaming}
+use Rattle.pd_substitution.specs.Substituted.{tail_with}
+use Rattle.pd_substitution.specs.declared.substitution.Substitution.{Substitution}
 use Rattle.pattern_uses.specs.Captures.{capture_of, captured}
 use Rattle.pattern_uses.specs.Uses.{cap_at, label}
 use Rattle.pred_inline.specs.Arguments.{naming}
@@ -31,14 +31,14 @@ unfolding placed_twice
 as_one own new made rest cap inner row done h m d =
     ap (united inner.name cap.name) (d ∙ ap (λ p. placed own p rest row) m) ∙ sym (ap (either own new rest cap inner row) h)
 
-pub case_step : (own : Name) (by : Renaming) (case : Case) (cap : Option Cap) (row : Opened) (new : Pat) (rest : Tail) (inner : Option Cap) → new ≡ case_filled by case row.args → rest ≡ tail_with by case.row.tail → inner ≡ capture_of new → placed_with own new rest cap inner row ≡ case_placed own by case cap row
+pub case_step : (own : Name) (by : Substitution) (case : Case) (cap : Option Cap) (row : Opened) (new : Pat) (rest : Tail) (inner : Option Cap) → new ≡ case_filled by case row.args → rest ≡ tail_with by case.row.tail → inner ≡ capture_of new → placed_with own new rest cap inner row ≡ case_placed own by case cap row
 unfolding case_placed
 case_step own by case cap row new rest inner e f g =
     ap (λ i. placed_with own new rest cap i row) g
     ∙ ap (λ r. placed_with own new r cap (capture_of new) row) f
     ∙ ap (λ n. placed_with own n (tail_with by case.row.tail) cap (capture_of n) row) e
 
-pub use_step : (own : Name) (case : Case) (cap : Option Cap) (row : Opened) (by : Renaming) (subject : Option Name) → subject ≡ name_of cap → by ≡ naming own case row.args subject → case_placed own by case cap row ≡ use_placed own case cap row
+pub use_step : (own : Name) (case : Case) (cap : Option Cap) (row : Opened) (by : Substitution) (subject : Option Name) → subject ≡ name_of cap → by ≡ naming own case row.args subject → case_placed own by case cap row ≡ use_placed own case cap row
 unfolding use_placed
 use_step own case cap row by subject s b =
     ap (λ y. case_placed own y case cap row) (b ∙ ap (naming own case row.args) s)

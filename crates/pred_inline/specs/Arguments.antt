@@ -5,8 +5,8 @@ use Rattle.std.specs.Str.{bytes_eq}
 use Rattle.pm_ops.specs.Names.{Name}
 use Rattle.pd_ast.specs.declared.pattern.Cap.{Cap}
 use Rattle.pd_ast.specs.declared.pattern.Pat.{Pat}
-use Rattle.capture_renaming.specs.declared.renaming.Renamed.{Renamed}
-use Rattle.capture_renaming.specs.declared.renaming.Renaming.{Renaming}
+use Rattle.pd_substitution.specs.declared.substitution.Renamed.{Renamed}
+use Rattle.pd_substitution.specs.declared.substitution.Substitution.{Substitution}
 use Rattle.pattern_uses.specs.Captures.{capture_names, capture_of, is_hole}
 use Rattle.pattern_uses.specs.Mentions.{captures_of_tail}
 use Rattle.pred_inline.specs.declared.case.Case.{Case}
@@ -39,8 +39,10 @@ pointed own = own ++ codes "."
 -- What the captures of a case are called at the use of that number, with these arguments: a parameter
 -- as the capture of its argument, and all others with the number and a point before their names. For
 -- `t` and `type` stands the capture of the use.
-abbrev pub naming : Name → Case → List Pat → Option Name → Renaming
+abbrev pub naming : Name → Case → List Pat → Option Name → Substitution
 naming own case args subject = record {
+  names = [];
+  entries = [];
   captures = filter_map (renamed_param case.params args) case.params;
   prefix = Some (pointed own);
   subject = subject;

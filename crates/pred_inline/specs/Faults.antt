@@ -1,10 +1,8 @@
 -- What keeps a row or a case from being inlined.
-use Rattle.std.specs.Prelude.{ℕ, nat_lt, Bool, true, false, if◌then◌else◌, List, length, map, Option, Some, None, Result}
+use Rattle.std.specs.Prelude.{ℕ, nat_lt, if◌then◌else◌, List, length, map, Option, Some, None}
 use Rattle.pm_ops.specs.declared.fault.PatternFault.{PatternFault}
-use Rattle.pm_ops.specs.declared.fault.PatternKind.{PatternKind}
-use Rattle.pm_ops.specs.declared.fault.PatternKind.TheVariants.{Memory, TooManyCaptures, TooManyNodes, TooManyRows}
+use Rattle.pm_ops.specs.declared.fault.PatternKind.TheVariants.{TooManyCaptures, TooManyNodes, TooManyRows}
 use Rattle.pm_places.specs.FirstFaults.{first_fault, or_fault}
-use Rattle.pm_places.specs.Judging as judging
 use Rattle.pd_ast.specs.declared.form.Row.{Row}
 use Rattle.pd_ast.specs.declared.pattern.Pat.{Pat}
 use Rattle.pattern_uses.specs.Counts.{capture_count, operations}
@@ -50,11 +48,3 @@ abbrev pub cases_fault : List Predicate → Case → ℕ → Option PatternFault
 cases_fault preds case conditions =
     or_fault (many_fault case.row.at (length (choices (cases_of_uses preds case.row.pattern))))
     (cases_limit case conditions (choices (cases_of_uses preds case.row.pattern)))
-
-abbrev pub is_memory_kind : PatternKind → Bool
-is_memory_kind Memory = true
-is_memory_kind kind = false
-
--- exactly this fault is answered, or none, unless memory runs out
-abbrev pub Judges : {X : Type 0} → Option PatternFault → Result X PatternFault → Type 0
-Judges expected result = judging.Judges (λ (fault : PatternFault). is_memory_kind fault.kind) expected result

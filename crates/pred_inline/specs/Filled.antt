@@ -9,8 +9,8 @@ use Rattle.pd_ast.specs.declared.pattern.Pat.{Pat, Pat-F, fold-Pat}
 use Rattle.pd_ast.specs.declared.pattern.Pat.TheOpen as layer
 use Rattle.pd_ast.specs.declared.pattern.Pat.TheVariants as pat
 use Rattle.pd_ast.specs.declared.pattern.PatNode.{PatNode, PatNode-F, fold-PatNode, roll-PatNode}
-use Rattle.capture_renaming.specs.Names.{cap_with}
-use Rattle.capture_renaming.specs.declared.renaming.Renaming.{Renaming}
+use Rattle.pd_substitution.specs.Chosen.{cap_with}
+use Rattle.pd_substitution.specs.declared.substitution.Substitution.{Substitution}
 use Rattle.pattern_uses.specs.Captures.{capture_of, captured}
 use Rattle.pred_inline.specs.Arguments.{argument_for, moved, occurs_again}
 use Rattle.pred_inline.specs.declared.case.Case.{Case}
@@ -28,7 +28,7 @@ in_place first again cap None = pat.Hole cap
 in_place first again cap (Some arg) = if first then standing again (capture_of arg) cap arg else pat.Hole cap
 
 -- behind captures alone of these names
-abbrev pub hole_filled : Renaming → Case → List Pat → Cap → List Name → Pat
+abbrev pub hole_filled : Substitution → Case → List Pat → Cap → List Name → Pat
 hole_filled by case args cap before =
     in_place (not (list_any (bytes_eq cap.name) before)) (occurs_again case cap.name) (cap_with by cap)
     (moved (argument_for case.params args cap.name))
@@ -50,7 +50,7 @@ abbrev pub all_filled : List Filling → List Name → List Pat
 all_filled [] before = []
 all_filled (one ∷ rest) before = one.filled before ∷ all_filled rest (before ++ one.holes)
 
-abbrev pub fill_layer : Renaming → Case → List Pat → Pat-F Filling NodeFilling → Filling
+abbrev pub fill_layer : Substitution → Case → List Pat → Pat-F Filling NodeFilling → Filling
 fill_layer by case args (layer.Hole cap) =
     record { holes = cap.name ∷ []; filled = hole_filled by case args cap }
 fill_layer by case args (layer.Test pred cap) =
@@ -63,7 +63,7 @@ fill_layer by case args (layer.Call name inner cap) =
 fill_layer by case args (layer.Node node) =
     record { holes = node.holes; filled = λ before. pat.Node (node.filled before) }
 
-abbrev pub fill_node_layer : Renaming → PatNode-F Filling NodeFilling → NodeFilling
+abbrev pub fill_node_layer : Substitution → PatNode-F Filling NodeFilling → NodeFilling
 fill_node_layer by node =
     record {
       holes = all_holes node.args;
@@ -77,12 +77,12 @@ fill_node_layer by node =
       });
     }
 
-abbrev pub filling : Renaming → Case → List Pat → Pat → Filling
+abbrev pub filling : Substitution → Case → List Pat → Pat → Filling
 filling by case args = fold-Pat Filling NodeFilling (fill_layer by case args) (fill_node_layer by)
 
-abbrev pub node_filling : Renaming → Case → List Pat → PatNode → NodeFilling
+abbrev pub node_filling : Substitution → Case → List Pat → PatNode → NodeFilling
 node_filling by case args = fold-PatNode Filling NodeFilling (fill_layer by case args) (fill_node_layer by)
 
 -- the whole pattern of the case
-abbrev pub case_filled : Renaming → Case → List Pat → Pat
+abbrev pub case_filled : Substitution → Case → List Pat → Pat
 case_filled by case args = (filling by case args case.row.pattern).filled []

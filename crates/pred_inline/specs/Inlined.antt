@@ -14,8 +14,8 @@ use Rattle.pd_ast.specs.declared.result.SwitchCase.{SwitchCase}
 use Rattle.pd_ast.specs.declared.result.Tail.{Tail, Tail-F, fold-Tail, out-Tail}
 use Rattle.pd_ast.specs.declared.result.Tail.TheOpen as open-tail
 use Rattle.pd_ast.specs.declared.result.Tail.TheVariants as made-tail
-use Rattle.capture_renaming.specs.Trees.{result_with, tail_with}
-use Rattle.capture_renaming.specs.declared.renaming.Renamed.{Renamed}
+use Rattle.pd_substitution.specs.Substituted.{result_with, tail_with}
+use Rattle.pd_substitution.specs.declared.substitution.Renamed.{Renamed}
 use Rattle.pattern_uses.specs.Uses.{labels, taken, used_predicates}
 use Rattle.pred_inline.specs.OneUse.{one_inlined}
 use Rattle.pred_inline.specs.Opened.{only}

@@ -6,8 +6,8 @@ use Rattle.pm_ops.specs.Names.{Name}
 use Rattle.pd_ast.specs.declared.pattern.Cap.{Cap}
 use Rattle.pd_ast.specs.declared.pattern.Pat.{Pat}
 use Rattle.pd_ast.specs.declared.result.Tail.{Tail}
-use Rattle.capture_renaming.specs.Trees.{tail_with}
-use Rattle.capture_renaming.specs.declared.renaming.Renaming.{Renaming}
+use Rattle.pd_substitution.specs.Substituted.{tail_with}
+use Rattle.pd_substitution.specs.declared.substitution.Substitution.{Substitution}
 use Rattle.pattern_uses.specs.Captures.{capture_of, captured}
 use Rattle.pattern_uses.specs.Mentions.{asks_subject}
 use Rattle.pattern_uses.specs.Uses.{cap_at, label, put_at}
@@ -77,7 +77,7 @@ placed_with own new rest (Some cap) None row = placed own (captured cap new) res
 placed_with own new rest (Some cap) (Some inner) row = placed_twice own new rest cap inner row
 
 -- the pattern and the end of the case, as they stand for the use
-unfoldable pub case_placed : Name → Renaming → Case → Option Cap → Opened → Opened
+unfoldable pub case_placed : Name → Substitution → Case → Option Cap → Opened → Opened
 case_placed own by case cap row =
     let new = case_filled by case row.args in
     placed_with own new (tail_with by case.row.tail) cap (capture_of new) row

@@ -4,10 +4,10 @@ use Rattle.std.specs.Str.{bytes_eq}
 use Rattle.pm_ops.specs.Names.{Name}
 use Rattle.pd_ast.specs.declared.pattern.Cap.{Cap}
 use Rattle.pd_ast.specs.declared.pattern.Pat.{Pat}
-use Rattle.capture_renaming.specs.Names.{name_with}
-use Rattle.capture_renaming.specs.Trees.{pattern_with, tail_with}
-use Rattle.capture_renaming.specs.declared.renaming.Renamed.{Renamed}
-use Rattle.capture_renaming.specs.declared.renaming.Renaming.{Renaming}
+use Rattle.pd_substitution.specs.Chosen.{name_with}
+use Rattle.pd_substitution.specs.Substituted.{pattern_with, tail_with}
+use Rattle.pd_substitution.specs.declared.substitution.Renamed.{Renamed}
+use Rattle.pd_substitution.specs.declared.substitution.Substitution.{Substitution}
 use Rattle.pattern_uses.specs.Captures.{capture_of, captured}
 use Rattle.pred_inline.specs.Arguments.{argument_for, capture_of_argument, place_of}
 use Rattle.pred_inline.specs.declared.case.Pair.{Pair}
@@ -17,16 +17,16 @@ use Rattle.pred_inline.specs.declared.opened.Opened.{Opened}
 abbrev pub change : Name → Name → Renamed
 change from to = record { from = from; to = to; by_value = None }
 
-abbrev pub only : Renamed → Renaming
-only one = record { captures = one ∷ []; prefix = None; subject = None }
+abbrev pub only : Renamed → Substitution
+only one = record { names = []; entries = []; captures = one ∷ []; prefix = None; subject = None }
 
-abbrev pub pair_with : Renaming → Pair → Pair
+abbrev pub pair_with : Substitution → Pair → Pair
 pair_with by pair =
     record { first = name_with by pair.first; second = name_with by pair.second }
 
 -- the whole row with the change made, the arguments of its uses included; the result or end
 -- of the row has it to come
-unfoldable pub changed_by : Renaming → Renamed → Opened → Opened
+unfoldable pub changed_by : Substitution → Renamed → Opened → Opened
 changed_by by one row = record {
   pattern = pattern_with by row.pattern;
   args = map (pattern_with by) row.args;

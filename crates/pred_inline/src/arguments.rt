@@ -7,9 +7,9 @@ ghost use Rattle.pred_inline.specs.Arguments.{occurs_again, place_of, pointed, r
 ghost use Rattle.pred_inline.specs.Arguments.{renamed_to, stands_twice};
 
 use crate::case::Case;
-use capture_renaming::{Renamed, Renaming};
 use pattern_uses::{capture_names, capture_of, captures_of_tail, is_among, is_hole};
 use pd_ast::{Cap, Pat};
+use pd_substitution::{Renamed, Substitution};
 use pm_items::{Items, Shared};
 use pm_ops::{OutOfMemory, Text};
 use std::alloc::Global;
@@ -57,11 +57,13 @@ pub fn naming(
     case: &Case,
     args: &[Shared<Pat>],
     subject: Option<Text>,
-) -> Result<Renaming, OutOfMemory>
+) -> Result<Substitution, OutOfMemory>
     ensures { IfOk result (λ made. made ≡ naming label.now case.now args.now subject) }
 {
     let captures = renamed_params(alloc, case.params.as_slice(), args)?;
-    Ok(Renaming {
+    Ok(Substitution {
+        names: Shared::new(alloc, Items::new(alloc))?,
+        entries: Items::new(alloc),
         captures,
         prefix: Some(pointed(alloc, label)?),
         subject,

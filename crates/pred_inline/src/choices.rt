@@ -11,7 +11,7 @@ use pm_ops::{OutOfMemory, Text};
 use std::alloc::Global;
 
 /// The cases of the predicate of that name; none where there is no such predicate.
-fn cases_named<'a>(preds: &'a [Predicate], name: &Text) -> &'a [Shared<Case>]
+pub fn cases_named<'a>(preds: &'a [Predicate], name: &Text) -> &'a [Shared<Case>]
     ensures { result.now ≡ cases_named preds.now name.now }
 {
     cases_or_none(predicate_named(preds, name))

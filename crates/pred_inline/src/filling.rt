@@ -1,15 +1,16 @@
 //! The pattern of a case as it stands for a use.
-ghost use Rattle.std.specs.Prelude.{◌≡◌, ◌++◌, map, IfOk, OnOk};
+ghost use Rattle.std.specs.Prelude.{◌≡◌, ◌++◌, map, option_map, IfOk, OnOk};
 ghost use Rattle.std.specs.Option.{option_copied};
 ghost use Rattle.pattern_uses.specs.Captures.{capture_of};
+ghost use Rattle.pd_substitution.specs.Chosen.{cap_with};
 ghost use Rattle.pred_inline.specs.Filled.{all_filled, all_holes, case_filled, filling, hole_filled};
 ghost use Rattle.pred_inline.specs.Filled.{in_place, node_filling, standing};
 
 use crate::arguments::{argument_for, moved, occurs_again};
 use crate::case::Case;
-use capture_renaming::{Renaming, cap_with, maybe_cap_with};
 use pattern_uses::{capture_of, captured, is_among};
 use pd_ast::{Cap, Pat, PatNode};
+use pd_substitution::{Substitution, cap_with};
 use pm_items::{Items, Shared};
 use pm_ops::{OutOfMemory, Text};
 use std::alloc::Global;
@@ -17,7 +18,7 @@ use std::alloc::Global;
 /// The pattern of a case, its captures called by this renaming, with the arguments of a use in it.
 pub fn case_filled(
     alloc: Global,
-    by: &Renaming,
+    by: &Substitution,
     case: &Case,
     args: &[Shared<Pat>],
 ) -> Result<Shared<Pat>, OutOfMemory>
@@ -32,7 +33,7 @@ pub fn case_filled(
 fn filled(
     alloc: Global,
     pattern: &Pat,
-    by: &Renaming,
+    by: &Substitution,
     case: &Case,
     args: &[Shared<Pat>],
     before: &mut Items<Text>,
@@ -68,7 +69,7 @@ fn filled(
 fn node_filled(
     alloc: Global,
     node: &PatNode,
-    by: &Renaming,
+    by: &Substitution,
     case: &Case,
     args: &[Shared<Pat>],
     before: &mut Items<Text>,
@@ -93,7 +94,7 @@ fn node_filled(
 fn all_filled(
     alloc: Global,
     patterns: &[Shared<Pat>],
-    by: &Renaming,
+    by: &Substitution,
     case: &Case,
     args: &[Shared<Pat>],
     before: &mut Items<Text>,
@@ -113,7 +114,7 @@ fn all_filled(
 /// What stands in the place of a capture alone, behind those of these names.
 fn hole_filled(
     alloc: Global,
-    by: &Renaming,
+    by: &Substitution,
     case: &Case,
     args: &[Shared<Pat>],
     cap: &Cap,
@@ -166,5 +167,19 @@ fn standing(
             }
             Ok(arg.share()?)
         }
+    }
+}
+
+/// A capture that may be absent, called as the substitution tells.
+fn maybe_cap_with(
+    alloc: Global,
+    by: &Substitution,
+    cap: &Option<Cap>,
+) -> Result<Option<Cap>, OutOfMemory>
+    ensures { IfOk result (λ made. made ≡ option_map (cap_with by.now) cap.now) }
+{
+    match cap {
+        Some(cap) => Ok(Some(cap_with(alloc, by, cap)?)),
+        None => Ok(None),
     }
 }

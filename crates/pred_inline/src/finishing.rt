@@ -6,9 +6,9 @@ ghost use Rattle.pred_inline.specs.Inlined.{tail_changed};
 
 use crate::case::Case;
 use crate::opened::{Opened, only};
-use capture_renaming::{Renamed, result_with, tail_with};
 use pattern_uses::copied_decls;
 use pd_ast::{Out, PredRow, Row, Tail};
+use pd_substitution::{Renamed, result_with, tail_with};
 use pm_items::Shared;
 use pm_ops::OutOfMemory;
 use std::alloc::Global;
@@ -63,7 +63,7 @@ fn result_changed(
     let mut made = gives.share()?;
     for one in changes {
         let by = only(alloc, one)?;
-        made = Shared::new(alloc, result_with(alloc, &by, made.get())?)?;
+        made = result_with(alloc, &by, &made)?;
     }
     Ok(made)
 }
@@ -78,7 +78,7 @@ fn tail_changed(
     let mut made = rest.share()?;
     for one in changes {
         let by = only(alloc, one)?;
-        made = Shared::new(alloc, tail_with(alloc, &by, made.get())?)?;
+        made = tail_with(alloc, &by, &made)?;
     }
     Ok(made)
 }

@@ -1,7 +1,8 @@
 //! Rows and cases without uses of predicates.
 ghost use Rattle.std.specs.Prelude.{◌≡◌, map, IfOk};
 ghost use Rattle.pm_places.specs.FirstFaults.{or_fault};
-ghost use Rattle.pred_inline.specs.Faults.{cases_fault, cases_limit, rows_fault, rows_limit, Judges};
+ghost use Rattle.commute_expand.specs.Faults.{Judges};
+ghost use Rattle.pred_inline.specs.Faults.{cases_fault, cases_limit, rows_fault, rows_limit};
 ghost use Rattle.pred_inline.specs.Inlined.{all_inlined, begun, case_by, cases_inlined, row_by};
 ghost use Rattle.pred_inline.specs.Inlined.{cases_named, choices, rows_inlined};
 

@@ -13,4 +13,5 @@ mod opened;
 mod uniting;
 
 pub use case::{Case, Pair, Predicate};
+pub use choices::cases_named;
 pub use inlining::{inline, inline_case};

@@ -10,11 +10,11 @@ use crate::case::{Case, Pair};
 use crate::filling::case_filled;
 use crate::opened::{Opened, united};
 use crate::uniting::pairs_united;
-use capture_renaming::{Renaming, tail_with};
 use pattern_uses::{
     asks_subject, cap_at, capture_of, captured, is_among, label, put_at, shared_patterns,
 };
 use pd_ast::{Cap, Pat, Tail};
+use pd_substitution::{Substitution, tail_with};
 use pm_items::{Items, Shared};
 use pm_ops::{OutOfMemory, Text};
 use std::alloc::Global;
@@ -113,7 +113,7 @@ fn name_of(alloc: Global, cap: &Option<Cap>) -> Result<Option<Text>, OutOfMemory
 fn case_placed(
     alloc: Global,
     label: &Text,
-    by: &Renaming,
+    by: &Substitution,
     case: &Case,
     cap: Option<Cap>,
     row: Opened,
@@ -121,7 +121,7 @@ fn case_placed(
     ensures { IfOk result (λ made. made ≡ case_placed label.now by.now case.now cap row) }
 {
     let new = case_filled(alloc, by, case, row.args.as_slice())?;
-    let tail = Shared::new(alloc, tail_with(alloc, by, case.row.tail.get())?)?;
+    let tail = tail_with(alloc, by, &case.row.tail)?;
     let inner = capture_of(alloc, new.get())?;
     placed_with(alloc, label, new, tail, cap, inner, row)
 }

@@ -1,12 +1,12 @@
 //! A row or a case whose uses are inlined, and what is done to the whole of it.
 ghost use Rattle.std.specs.Prelude.{◌≡◌, map, IfOk};
-ghost use Rattle.capture_renaming.specs.Names.{name_with};
-ghost use Rattle.capture_renaming.specs.Trees.{pattern_with, tail_with};
+ghost use Rattle.pd_substitution.specs.Chosen.{name_with};
+ghost use Rattle.pd_substitution.specs.Substituted.{pattern_with, tail_with};
 ghost use Rattle.pred_inline.specs.Opened.{change, changed, changed_by, only, pair_with, united};
 
 use crate::case::Pair;
-use capture_renaming::{Renamed, Renaming, name_with, pattern_with, tail_with};
 use pd_ast::{Pat, Tail};
+use pd_substitution::{Renamed, Substitution, name_with, pattern_with, tail_with};
 use pm_items::{Items, Shared};
 use pm_ops::{OutOfMemory, Text};
 use std::alloc::Global;
@@ -40,8 +40,8 @@ fn change(alloc: Global, from: &Text, to: &Text) -> Result<Renamed, OutOfMemory>
     })
 }
 
-/// A renaming of one capture alone.
-pub fn only(alloc: Global, one: &Renamed) -> Result<Renaming, OutOfMemory>
+/// A substitution that renames one capture alone.
+pub fn only(alloc: Global, one: &Renamed) -> Result<Substitution, OutOfMemory>
     ensures { IfOk result (λ made. made ≡ only one.now) }
 {
     let mut captures = Items::new(alloc);
@@ -50,7 +50,9 @@ pub fn only(alloc: Global, one: &Renamed) -> Result<Renaming, OutOfMemory>
         to: one.to.copy(alloc)?,
         by_value: one.by_value,
     })?;
-    Ok(Renaming {
+    Ok(Substitution {
+        names: Shared::new(alloc, Items::new(alloc))?,
+        entries: Items::new(alloc),
         captures,
         prefix: None,
         subject: None,
@@ -84,14 +86,13 @@ fn changed(alloc: Global, one: Renamed, row: Opened) -> Result<Opened, OutOfMemo
 #[tactic(auto, unfolding(crate::specs::Opened::changed_by))]
 fn changed_by(
     alloc: Global,
-    by: &Renaming,
+    by: &Substitution,
     one: Renamed,
     row: Opened,
 ) -> Result<Opened, OutOfMemory>
     ensures { IfOk result (λ made. made ≡ changed_by by.now one row) }
 {
-    let pattern = pattern_with(alloc, by, row.pattern.get())?;
-    let pattern = Shared::new(alloc, pattern)?;
+    let pattern = pattern_with(alloc, by, &row.pattern)?;
     let args = patterns_with(alloc, by, row.args.as_slice())?;
     let uses = uses_with(alloc, by, row.uses.as_slice())?;
     let tails = tails_with(alloc, by, row.tails.as_slice())?;
@@ -112,22 +113,21 @@ fn changed_by(
 
 fn patterns_with(
     alloc: Global,
-    by: &Renaming,
+    by: &Substitution,
     patterns: &[Shared<Pat>],
 ) -> Result<Items<Shared<Pat>>, OutOfMemory>
     ensures { IfOk result (λ made. made ≡ map (pattern_with by.now) patterns.now) }
 {
     let mut made = Items::new(alloc);
     for pattern in patterns {
-        let one = pattern_with(alloc, by, pattern.get())?;
-        made.push(Shared::new(alloc, one)?)?;
+        made.push(pattern_with(alloc, by, pattern)?)?;
     }
     Ok(made)
 }
 
 fn uses_with(
     alloc: Global,
-    by: &Renaming,
+    by: &Substitution,
     uses: &[Items<Shared<Pat>>],
 ) -> Result<Items<Items<Shared<Pat>>>, OutOfMemory>
     ensures { IfOk result (λ made. made ≡ map (map (pattern_with by.now)) uses.now) }
@@ -141,20 +141,19 @@ fn uses_with(
 
 fn tails_with(
     alloc: Global,
-    by: &Renaming,
+    by: &Substitution,
     tails: &[Shared<Tail>],
 ) -> Result<Items<Shared<Tail>>, OutOfMemory>
     ensures { IfOk result (λ made. made ≡ map (tail_with by.now) tails.now) }
 {
     let mut made = Items::new(alloc);
     for tail in tails {
-        let one = tail_with(alloc, by, tail.get())?;
-        made.push(Shared::new(alloc, one)?)?;
+        made.push(tail_with(alloc, by, tail)?)?;
     }
     Ok(made)
 }
 
-fn names_with(alloc: Global, by: &Renaming, names: &[Text]) -> Result<Items<Text>, OutOfMemory>
+fn names_with(alloc: Global, by: &Substitution, names: &[Text]) -> Result<Items<Text>, OutOfMemory>
     ensures { IfOk result (λ made. made ≡ map (name_with by.now) names.now) }
 {
     let mut made = Items::new(alloc);
@@ -164,7 +163,7 @@ fn names_with(alloc: Global, by: &Renaming, names: &[Text]) -> Result<Items<Text
     Ok(made)
 }
 
-fn pairs_with(alloc: Global, by: &Renaming, pairs: &[Pair]) -> Result<Items<Pair>, OutOfMemory>
+fn pairs_with(alloc: Global, by: &Substitution, pairs: &[Pair]) -> Result<Items<Pair>, OutOfMemory>
     ensures { IfOk result (λ made. made ≡ map (pair_with by.now) pairs.now) }
 {
     let mut made = Items::new(alloc);

@@ -1,6 +1,6 @@
 use Rattle.std.proofs.Common.{sym, ap, ◌∙◌}
 use Rattle.std.proofs.lemmas.Result.{IfOk-weaker}
-use Rattle.capture_renaming.specs.Trees.{tail_with}
+use Rattle.pd_substitution.specs.Substituted.{tail_with}
 use Rattle.pattern_uses.specs.Captures.{capture_of}
 use Rattle.pred_inline.specs.Filled.{case_filled}
 use Rattle.pred_inline.proofs.Placing.{case_step}

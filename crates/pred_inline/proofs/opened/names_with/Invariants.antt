@@ -1,5 +1,5 @@
 use Rattle.std.proofs.Common.{◌≡◌, map, take}
-use Rattle.capture_renaming.specs.Names.{name_with}
+use Rattle.pd_substitution.specs.Chosen.{name_with}
 use Rattle.pred_inline.proofs.opened.names_with.Given as goal
 
 abbrev pub invariant-loop-name : goal.invariant-loop-name

@@ -1,5 +1,5 @@
 use Rattle.std.proofs.Common.{◌≡◌, map, take}
-use Rattle.capture_renaming.specs.Trees.{pattern_with}
+use Rattle.pd_substitution.specs.Substituted.{pattern_with}
 use Rattle.pred_inline.proofs.opened.patterns_with.Given as goal
 
 abbrev pub invariant-loop-pattern : goal.invariant-loop-pattern

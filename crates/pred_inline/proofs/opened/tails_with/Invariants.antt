@@ -1,5 +1,5 @@
 use Rattle.std.proofs.Common.{◌≡◌, map, take}
-use Rattle.capture_renaming.specs.Trees.{tail_with}
+use Rattle.pd_substitution.specs.Substituted.{tail_with}
 use Rattle.pred_inline.proofs.opened.tails_with.Given as goal
 
 abbrev pub invariant-loop-tail : goal.invariant-loop-tail
