@@ -8,7 +8,7 @@ ghost use Rattle.cond_eval.specs.Environments.{AreValues};
 
 use crate::operands::operand;
 use crate::results::result;
-use crate::shown::shown_raw;
+use crate::shown::shown_or_none;
 use cond_eval::CEnv;
 use either::{Left, Right};
 use pattern_rows::Caps;
@@ -179,10 +179,13 @@ pub(crate) fn built(
 }
 
 /// How many operations a raw result has.
-fn operations_of(raw: &Raw) -> usize {
-    match &raw.body {
-        Left(_) => 0,
-        Right(term) => operators(term),
+fn operations_of(raw: &Option<Raw>) -> usize {
+    match raw {
+        Some(raw) => match &raw.body {
+            Left(_) => 0,
+            Right(term) => operators(term),
+        },
+        None => 0,
     }
 }
 
@@ -191,11 +194,8 @@ fn judge_line(rt: &impl Abort, alloc: Global, line: &str) -> Result<(), OutOfMem
     let (asked, expected) = line.split_once(" => ").unwrap_or((line, ""));
     let (text, letter) = asked.split_once(" of ").unwrap_or((asked, ""));
     let env = environment(alloc, captures(alloc)?, operand(letter).ty())?;
-    let Some(raw) = built(alloc, text, &caps(), &env)? else {
-        assert_eq!(rt; "none", expected, "{asked}");
-        return Ok(());
-    };
-    let found = shown_raw(alloc, &raw)?;
+    let raw = built(alloc, text, &caps(), &env)?;
+    let found = shown_or_none(alloc, &raw)?;
     assert_eq!(rt; found.as_str(), expected, "{asked}");
     let written = expected.bytes().filter(|byte| *byte == b'(').count();
     assert_eq!(rt; operations_of(&raw), written, "operations of {asked}");

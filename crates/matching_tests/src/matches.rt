@@ -6,7 +6,7 @@ use crate::functions::sample;
 use crate::operands::digit;
 use crate::patterns::test_rows;
 use crate::shown::shown_caps;
-use crate::subjects::found_at;
+use crate::subjects::{Found, found_at};
 use gim_ast::Function;
 use pattern_rows::TestRow;
 use pm_ops::OutOfMemory;
@@ -75,12 +75,13 @@ fn answer(
     let Some(found) = found_at(alloc, function, rows, subject, after)? else {
         return Ok(String::from_str(alloc, "no operation")?);
     };
-    match found.row {
+    let Found { row, asked, ty: _ } = found;
+    match row {
         Some((number, caps)) => {
             let caps = shown_caps(alloc, &caps)?;
-            Ok(format!(in alloc; "{number}{caps} in {}", found.asked)?)
+            Ok(format!(in alloc; "{number}{caps} in {asked}")?)
         }
-        None => Ok(format!(in alloc; "0 in {}", found.asked)?),
+        None => Ok(format!(in alloc; "0 in {asked}")?),
     }
 }
 

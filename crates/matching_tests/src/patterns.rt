@@ -92,14 +92,24 @@ fn node(
 pub(crate) fn test_rows(alloc: Global, texts: &str) -> Result<Items<TestRow>, OutOfMemory> {
     let mut rows = Items::new(alloc);
     for text in texts.split(';') {
-        let row = Row {
-            at: 0,
-            pattern: Shared::new(alloc, pattern(alloc, text)?)?,
-            result: Shared::new(alloc, Out::Hole(Text::new(alloc, b"0")?))?,
-        };
-        if is_expanded(row.pattern.get()) {
-            rows.push(test_row(alloc, &row)?)?;
-        }
+        push_test_row(alloc, text, &mut rows)?;
     }
     Ok(rows)
+}
+
+/// The test row of one more pattern.
+pub(crate) fn push_test_row(
+    alloc: Global,
+    text: &str,
+    rows: &mut Items<TestRow>,
+) -> Result<(), OutOfMemory> {
+    let row = Row {
+        at: 0,
+        pattern: Shared::new(alloc, pattern(alloc, text)?)?,
+        result: Shared::new(alloc, Out::Hole(Text::new(alloc, b"0")?))?,
+    };
+    if is_expanded(row.pattern.get()) {
+        rows.push(test_row(alloc, &row)?)?;
+    }
+    Ok(())
 }

@@ -42,6 +42,14 @@ pub(crate) fn shown_raw(alloc: Global, raw: &Raw) -> Result<String, OutOfMemory>
     Ok(text)
 }
 
+/// The same, or `none`.
+pub(crate) fn shown_or_none(alloc: Global, raw: &Option<Raw>) -> Result<String, OutOfMemory> {
+    match raw {
+        Some(raw) => shown_raw(alloc, raw),
+        None => Ok(String::from_str(alloc, "none")?),
+    }
+}
+
 /// The text of a place: its positions.
 fn shown_place(alloc: Global, place: &Place) -> Result<String, OutOfMemory> {
     let mut text = String::new(alloc);
