@@ -1,7 +1,7 @@
 //! Which predicates hold of an operand, at each type.
 use crate::functions::sample;
 use crate::patterns::test_rows;
-use crate::subjects::found_at;
+use crate::subjects::{found_at, is_found};
 use gim_ast::Function;
 use pm_ops::OutOfMemory;
 use std::alloc::Global;
@@ -57,10 +57,8 @@ fn holds(
     let pattern = format!(in alloc; "(negate {predicate})")?;
     let rows = test_rows(alloc, pattern.as_str())?;
     let subject = format!(in alloc; "negate {operand}")?;
-    match found_at(alloc, function, rows.as_slice(), subject.as_str(), 0)? {
-        Some(found) => Ok(found.row.is_some()),
-        None => Ok(false),
-    }
+    let found = found_at(alloc, function, rows.as_slice(), subject.as_str(), 0)?;
+    Ok(is_found(&found))
 }
 
 /// The predicates that hold of an operand, with a space between two of them.
