@@ -1,0 +1,5 @@
+-- What the heads, captures and lists of a pattern file stand for, and patterns as trees that own their names.
+pub mod Heads
+pub mod Leaves
+pub mod Patterns
+pub mod Lists
