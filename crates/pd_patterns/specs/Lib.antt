@@ -3,3 +3,4 @@ pub mod Heads
 pub mod Leaves
 pub mod Patterns
 pub mod Lists
+pub mod Fits
