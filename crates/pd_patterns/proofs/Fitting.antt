@@ -1,5 +1,6 @@
 -- A head that breaks no rule on names stands for one operator or one predicate: both stages look a name up in one order.
-use Rattle.std.proofs.Common.{◌≡◌, ℕ, suc, ◌-◌, nat_lt, Bool, true, false, List, [], ◌∷◌, map, find, take, drop, length, Option, Some, None, refl, sym, ap, ◌∙◌, cond}
+use Rattle.std.proofs.Common.{◌≡◌, ℕ, zero, suc, ◌-◌, nat_lt, Bool, true, false, List, [], ◌∷◌, map, find, take, drop, length, Option, Some, None, refl, sym, ap, ◌∙◌, cond, arith}
+use Rattle.std.proofs.lemmas.Bool.{lt-ltb}
 use Rattle.std.specs.Prelude.{is_some, not, ◌&&◌, ◌||◌, if◌then◌else◌}
 use Rattle.std.specs.List.{list_any}
 use Rattle.std.specs.Str.{bytes_eq}
@@ -9,7 +10,7 @@ use Rattle.pm_ops.specs.Codes.{arity_of}
 use Rattle.pm_ops.specs.declared.code.Code.{Code}
 use Rattle.pm_ops.specs.declared.predicate.Pred.{Pred}
 use Rattle.pm_ops.specs.declared.fault.PatternFault.{PatternFault}
-use Rattle.pm_ops.specs.declared.fault.PatternKind.TheVariants.{UnknownPredicate}
+use Rattle.pm_ops.specs.declared.fault.PatternKind.TheVariants.{UnknownPredicate, BadArity}
 use Rattle.pm_places.specs.declared.span.Span.{Span}
 use Rattle.pm_places.specs.Spans.{text_of}
 use Rattle.cond_subset.specs.Syntax.{fault_at}
@@ -122,8 +123,8 @@ called source (one ∷ cases) name = by_test (bytes_eq (text_of source one.name)
 
 -- ---- heads
 
-some_is : {A : Type 0} (x y : A) → ◌≡◌ {A = Option A} (Some x) (Some y) → x ≡ y
-some_is x y e = cc
+more_than_none : (n : ℕ) → nat_lt 0 (suc n) ≡ true
+more_than_none n = lt-ltb 0 (suc n) (omega arith)
 
 operator_is : (a b : Arity) → heads.Operator a ≡ heads.Operator b → a ≡ b
 operator_is a b e = cc
@@ -175,8 +176,13 @@ module _ (source : List ℕ) (known : Known) (own : Option Own) (head : HeadText
       ap (λ b. head_by b (operator_arity source known name) (parameters_of source known.cases name)) o
       ∙ ap (λ x. head_by is x (parameters_of source known.cases name)) a ∙ ap (head_by is arity) c
 
-  used : (is there : Bool) → is_operator source above name ≡ is → has_parameters source above name ≡ there → is_use source above name ≡ (not is && there)
-  used is there p q = ap (λ b. not b && has_parameters source above name) p ∙ ap (λ b. not is && b) q
+  -- a name that is no operator is the use of its predicate, which has parameters
+  head_use : (n : ℕ) → is_own source own name ≡ false → operator_arity source known name ≡ None → parameters_of source known.cases name ≡ Some (suc n)
+      → head_of source known own head ≡ heads.Use (suc n)
+  head_use n o a p = is_head false None (Some (suc n)) o a p ∙ ap (λ b. if b then heads.Use (suc n) else numbered_head source known name marked) (more_than_none n)
+
+  used : (is called : Bool) → is_operator source above name ≡ is → has_parameters source above name ≡ called → is_use source above name ≡ (not is && called)
+  used is called p q = ap (λ b. not b && has_parameters source above name) p ∙ ap (λ b. not is && b) q
 
   abbrev Fits : Arity → Type 0
   Fits arity = (is_use source above name ≡ false) × (arity_of_operator source known (operator_and_group source above name).0 ≡ Some arity)
@@ -187,40 +193,41 @@ module _ (source : List ℕ) (known : Known) (own : Option Own) (head : HeadText
   -- a group counts where the name before it is an operator
   in_group : (arity : Arity) → is_use source above name ≡ false → operator_named source above name ≡ None → Whole source known base → (group mark : Bool)
       → is_group digit ≡ group → marked ≡ mark → numbered_head source known name marked ≡ heads.Operator arity → Fits arity
-  in_group arity no none (operator op asked p q r s) true true g m h =
+  in_group arity unused none (operator op asked p q r s) true true g m h =
       let numbered_is : numbered_head source known name marked ≡ heads.Operator asked =
       ap (λ b. if b then operator_or (numbered_arity source known name) heads.Unknown else heads.Unknown) m
       ∙ ap (λ b. operator_or (if b then operator_arity source known base else None) heads.Unknown) g ∙ ap (λ a. operator_or a heads.Unknown) r in
-      (no, ap (arity_of_operator source known) (operator_of None none ∙ ap or_null p) ∙ s ∙ ap (λ a. Some a) (operator_is asked arity (sym numbered_is ∙ h)))
-  in_group arity no none (other p q r) true true g m h =
+      (unused, ap (arity_of_operator source known) (operator_of None none ∙ ap or_null p) ∙ s ∙ ap (λ a. Some a) (operator_is asked arity (sym numbered_is ∙ h)))
+  in_group arity unused none (other p q r) true true g m h =
       let numbered_is : numbered_head source known name marked ≡ heads.Unknown =
       ap (λ b. if b then operator_or (numbered_arity source known name) heads.Unknown else heads.Unknown) m
       ∙ ap (λ b. operator_or (if b then operator_arity source known base else None) heads.Unknown) g ∙ ap (λ a. operator_or a heads.Unknown) r in
       absurd (unknown_is_no_operator arity (sym numbered_is ∙ h))
-  in_group arity no none w false true g m h =
+  in_group arity unused none w false true g m h =
       let numbered_is : numbered_head source known name marked ≡ heads.Unknown =
       ap (λ b. if b then operator_or (numbered_arity source known name) heads.Unknown else heads.Unknown) m
       ∙ ap (λ b. operator_or (if b then operator_arity source known base else None) heads.Unknown) g in
       absurd (unknown_is_no_operator arity (sym numbered_is ∙ h))
-  in_group arity no none w group false g m h =
+  in_group arity unused none w group false g m h =
       absurd (unknown_is_no_operator arity (sym (ap (λ b. if b then operator_or (numbered_arity source known name) heads.Unknown else heads.Unknown) m) ∙ h))
 
   fits_group : (arity : Arity) → is_use source above name ≡ false → operator_named source above name ≡ None → numbered_head source known name marked ≡ heads.Operator arity → Fits arity
-  fits_group arity no none h = in_group arity no none (whole source known base) (is_group digit) marked refl refl h
+  fits_group arity unused none h = in_group arity unused none (whole source known base) (is_group digit) marked refl refl h
 
   fits_other : (arity : Arity) → is_own source own name ≡ false → operator_named source above name ≡ None → is_operator source above name ≡ false
       → operator_arity source known name ≡ None → Called source known.cases name → head_of source known own head ≡ heads.Operator arity → Fits arity
-  fits_other arity o none is a (found 0 p q) h = fits_group arity (used false false is q) none (sym (is_head false None (Some 0) o a p) ∙ h)
-  fits_other arity o none is a (found (suc n) p q) h = absurd (use_is_no_operator (suc n) arity (sym (is_head false None (Some (suc n)) o a p) ∙ h))
+  fits_other arity o none is a (found zero p q) h = fits_group arity (used false false is q) none (sym (is_head false None (Some 0) o a p) ∙ h)
+  fits_other arity o none is a (found (suc n) p q) h = absurd (use_is_no_operator (suc n) arity (sym (head_use n o a p) ∙ h))
   fits_other arity o none is a (unknown p q) h = fits_group arity (used false false is q) none (sym (is_head false None None o a p) ∙ h)
 
   fits_own : (arity : Arity) (is : Bool) → is_own source own name ≡ is → Whole source known name → head_of source known own head ≡ heads.Operator arity → Fits arity
   fits_own arity true o w h =
       absurd (own_is_no_operator arity (sym (is_head true (operator_arity source known name) (parameters_of source known.cases name) o refl refl) ∙ h))
-  fits_own arity false o (operator op asked p q r s) h =
-      (used true (has_parameters source above name) q refl,
-       ap (arity_of_operator source known) (operator_of (Some op) p) ∙ s
-       ∙ ap (λ a. Some a) (operator_is asked arity (sym (is_head false (Some asked) (parameters_of source known.cases name) o r refl) ∙ h)))
+  fits_own arity false o (operator op asked p q r s) h = (
+    used true (has_parameters source above name) q refl,
+    ap (arity_of_operator source known) (operator_of (Some op) p) ∙ s
+        ∙ ap (λ a. Some a) (operator_is asked arity (sym (is_head false (Some asked) (parameters_of source known.cases name) o r refl) ∙ h)),
+  )
   fits_own arity false o (other p q r) h = fits_other arity o p q r (called source known.cases name) h
 
   abbrev IsOfPredicate : ℕ → Type 0
@@ -239,9 +246,9 @@ module _ (source : List ℕ) (known : Known) (own : Option Own) (head : HeadText
 
   use_other : (count : ℕ) → is_own source own name ≡ false → is_operator source above name ≡ false → operator_arity source known name ≡ None
       → Called source known.cases name → head_of source known own head ≡ heads.Use count → IsOfPredicate count
-  use_other count o is a (found 0 p q) h = absurd (no_use_in_group count (numbered_arity source known name) marked refl refl (sym (is_head false None (Some 0) o a p) ∙ h))
+  use_other count o is a (found zero p q) h = absurd (no_use_in_group count (numbered_arity source known name) marked refl refl (sym (is_head false None (Some 0) o a p) ∙ h))
   use_other count o is a (found (suc n) p q) h =
-      (used false true is q, p ∙ ap (λ m. Some m) (use_is (suc n) count (sym (is_head false None (Some (suc n)) o a p) ∙ h)))
+      (used false true is (q ∙ more_than_none n), p ∙ ap (λ m. Some m) (use_is (suc n) count (sym (head_use n o a p) ∙ h)))
   use_other count o is a (unknown p q) h = absurd (no_use_in_group count (numbered_arity source known name) marked refl refl (sym (is_head false None None o a p) ∙ h))
 
   use_own : (count : ℕ) (is : Bool) → is_own source own name ≡ is → Whole source known name → head_of source known own head ≡ heads.Use count → IsOfPredicate count
@@ -272,12 +279,16 @@ module _ (source : List ℕ) (known : Known) (own : Option Own) (at : Span) wher
       ap (λ b. fault_by b (pred_named (text_of source at)) (parameters_of source known.cases (text_of source at))) o
       ∙ ap (λ x. fault_by is x (parameters_of source known.cases (text_of source at))) p ∙ ap (fault_by is pred) c
 
+  bare_called : (n : ℕ) → is_own source own (text_of source at) ≡ false → pred_named (text_of source at) ≡ None
+      → parameters_of source known.cases (text_of source at) ≡ Some (suc n) → bare_fault source known own at ≡ Some (fault_at BadArity at)
+  bare_called n o p c = bare_by false None (Some (suc n)) o p c ∙ ap (λ b. broken b BadArity at) (more_than_none n)
+
   bare_count : (is : Bool) (count : Option ℕ) → is_own source own (text_of source at) ≡ is → pred_named (text_of source at) ≡ None
       → parameters_of source known.cases (text_of source at) ≡ count → bare_fault source known own at ≡ None → count ≡ Some 0
   bare_count true count o p c h = absurd (no_fault _ (sym (bare_by true None count o p c) ∙ h))
   bare_count false None o p c h = absurd (no_fault _ (sym (bare_by false None None o p c) ∙ h))
-  bare_count false (Some 0) o p c h = refl
-  bare_count false (Some (suc n)) o p c h = absurd (no_fault _ (sym (bare_by false None (Some (suc n)) o p c) ∙ h))
+  bare_count false (Some zero) o p c h = refl
+  bare_count false (Some (suc n)) o p c h = absurd (no_fault _ (sym (bare_called n o p c) ∙ h))
 
 pub bare_are : (source : List ℕ) (known : Known) (own : Option Own) (at : Span) → bare_fault source known own at ≡ None → pred_named (text_of source at) ≡ None
     → parameters_of source known.cases (text_of source at) ≡ Some 0

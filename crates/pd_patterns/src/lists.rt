@@ -12,11 +12,7 @@ use pm_places::{Span, text};
 use std::alloc::Global;
 
 /// Names as they are spelled.
-pub fn make_names(
-    alloc: Global,
-    source: &[u8],
-    places: &[Span],
-) -> Result<Items<Text>, OutOfMemory>
+pub fn make_names(alloc: Global, source: &[u8], places: &[Span]) -> Result<Items<Text>, OutOfMemory>
     ensures { IfOk result (λ names. names ≡ list_rules.names_of source.now places.now) }
 {
     let mut names = Items::new(alloc);

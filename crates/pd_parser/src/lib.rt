@@ -1,0 +1,14 @@
+//! Pattern files from tokens to forms: depth, then syntax, then names, then types. The first stage
+//! with a fault answers, with its first place in the order of the file.
+//!
+//! Each stage stands in a crate of its own; here they are put in a row, and the forms made one
+//! after the other, each with what is known in its place (`Place`).
+#![tactic(auto)]
+
+mod forms;
+pub mod laws;
+mod parse;
+mod place;
+
+pub use parse::parse;
+pub use place::Place;
