@@ -1,8 +1,7 @@
 -- A head that breaks no rule on names stands for one operator or one predicate: both stages look a name up in one order.
-use Rattle.std.proofs.Common.{◌≡◌, ℕ, zero, suc, ◌-◌, nat_lt, Bool, true, false, List, [], ◌∷◌, map, find, take, drop, length, Option, Some, None, refl, sym, ap, ◌∙◌, cond, arith}
+use Rattle.std.proofs.Common.{◌≡◌, ℕ, zero, suc, ◌-◌, nat_lt, Bool, true, false, List, [], ◌∷◌, map, take, drop, length, Option, Some, None, refl, sym, ap, ◌∙◌, cond, arith}
 use Rattle.std.proofs.lemmas.Bool.{lt-ltb}
 use Rattle.std.specs.Prelude.{is_some, not, ◌&&◌, ◌||◌, if◌then◌else◌}
-use Rattle.std.specs.List.{list_any}
 use Rattle.std.specs.Str.{bytes_eq}
 use Rattle.pm_ops.specs.Names.{Name, code_named}
 use Rattle.pm_ops.specs.Predicates.{pred_named}
@@ -24,8 +23,8 @@ use Rattle.pd_pattern_names.specs.declared.heads.Own.{Own}
 use Rattle.pd_pattern_names.specs.declared.heads.Head.{Head}
 use Rattle.pd_pattern_names.specs.declared.heads.Head.TheVariants as heads
 use Rattle.pd_pattern_names.specs.Known.{Arity, of_code, or_else, arity_of_chosen, first_named, arity_in, operator_arity, parameters_of, broken}
-use Rattle.pd_pattern_names.specs.Heads.{is_own, is_group, numbered_arity, operator_or, use_or, numbered_head, other_head, head_named, head_of, bare_fault, other_fault, other_use_fault}
-use Rattle.pd_patterns.specs.Heads.{predicate_of, above_of, is_among, code_or, chosen_or_listed, operator_named, is_operator, is_called_there, first_case, has_parameters, is_use, or_null, digit_of, grouped_or, numbered, operator_and_group}
+use Rattle.pd_pattern_names.specs.Heads.{is_own, is_group, numbered_arity, operator_or, use_or, numbered_head, head_of, bare_fault, other_use_fault}
+use Rattle.pd_patterns.specs.Heads.{predicate_of, above_of, is_among, code_or, operator_named, is_operator, is_called_there, first_case, has_parameters, is_use, or_null, grouped_or, numbered, operator_and_group}
 use Rattle.pd_patterns.specs.declared.heads.Above.{Above}
 use Rattle.pd_patterns.specs.Fits.{arity_of_operator}
 

@@ -1,5 +1,5 @@
 -- Captures, flags, and what a bare name stands for.
-use Rattle.std.specs.Prelude.{ℕ, ◌-◌, ◌==◌, Bool, true, false, is_some, List, [], option_map, Option, Some, None, if◌then◌else◌}
+use Rattle.std.specs.Prelude.{ℕ, ◌==◌, Bool, true, false, List, [], option_map, Option, Some, None, if◌then◌else◌}
 use Rattle.std.specs.List.{list_any}
 use Rattle.pm_ops.specs.Names.{Name}
 use Rattle.pm_ops.specs.Predicates.{pred_named}

@@ -7,7 +7,7 @@ use Rattle.pd_forms.specs.Trees.{Pattern, capture, predicate, operation, Pattern
 use Rattle.pd_ast.specs.declared.pattern.OpRef.{OpRef}
 use Rattle.pd_ast.specs.declared.pattern.Pat.{Pat}
 use Rattle.pd_ast.specs.declared.pattern.Pat.TheVariants as pat
-use Rattle.pd_ast.specs.declared.pattern.PatNode.{PatNode, roll-PatNode}
+use Rattle.pd_ast.specs.declared.pattern.PatNode.{roll-PatNode}
 use Rattle.pd_patterns.specs.declared.heads.Above.{Above}
 use Rattle.pd_patterns.specs.Heads.{is_use, operator_and_group}
 use Rattle.pd_patterns.specs.Leaves.{cap_of, own_cap, letters_of, flags_of, bare_of}
