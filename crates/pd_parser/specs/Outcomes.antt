@@ -1,6 +1,5 @@
 -- What the symbols of a file come to: forms, or the first fault of depth, then of syntax, then of names, then of types.
 use Rattle.std.specs.Prelude.{◌≡◌, ℕ, ◌<◌, List, [], ◌∷◌, drop, length, Some, Result, Ok, Err, ◌⊎◌}
-use Rattle.grammar.specs.declared.stop.Fault.{Fault}
 use Rattle.pm_ops.specs.declared.fault.PatternFault.{PatternFault}
 use Rattle.pm_ops.specs.declared.fault.PatternKind.{PatternKind}
 use Rattle.pd_text.specs.Meanings.{span_of}
@@ -10,7 +9,7 @@ use Rattle.cond_subset.specs.Syntax.{fault_at}
 use Rattle.cond_subset.specs.Names.{is_memory_kind}
 use Rattle.cond_subset.specs.Types.{Finds}
 use Rattle.cond_subset.specs.Outcomes.{Means, OrMemory}
-use Rattle.pd_forms.specs.Depth.{IsSoundBefore, IsFirstBroken}
+use Rattle.pd_forms.specs.Depth.{fault_at as broken_at, IsSoundBefore}
 use Rattle.pd_files.specs.Forms.{SpellsFile}
 use Rattle.pd_files.specs.Files.{IsSyntaxFault}
 use Rattle.pd_parser.specs.Forms.{file_meaning}
@@ -26,9 +25,12 @@ fault_here kind (t ∷ rest) = fault_at kind (span_of t)
 
 -- The fault is that of the first place at which a rule of depth is broken.
 pub record IsDepthFault (file : List Symbol) (fault : PatternFault) : Type 0 where
-  pub found : Fault Symbol PatternKind
-  pub first : IsFirstBroken file found
-  pub is : fault ≡ fault_here found.kind found.rest.now
+  pub at : ℕ
+  pub kind : PatternKind
+  pub inside : at < length file
+  pub broken : broken_at file at ≡ Some kind
+  pub first : IsSoundBefore file at
+  pub is : fault ≡ fault_here kind (drop at file)
 
 -- what a file comes to in which no rule of depth is broken
 abbrev pub ReadOutcome : List ℕ → List Symbol → Result (List Made) PatternFault → Type 0
@@ -44,6 +46,11 @@ Outcome source file (Err fault) = IsDepthFault file fault ⊎ (IsShallow file ×
 abbrev pub Answers : List ℕ → List Symbol → Result (List Made) PatternFault → Type 0
 Answers source file (Ok forms) = Outcome source file (Ok forms)
 Answers source file (Err fault) = OrMemory (is_memory_kind fault.kind) (Outcome source file (Err fault))
+
+-- the same of a file in which no rule of depth is broken
+abbrev pub ReadAnswers : List ℕ → List Symbol → Result (List Made) PatternFault → Type 0
+ReadAnswers source file (Ok forms) = ReadOutcome source file (Ok forms)
+ReadAnswers source file (Err fault) = OrMemory (is_memory_kind fault.kind) (ReadOutcome source file (Err fault))
 
 -- What a file comes to is answered, unless memory runs out.
 abbrev pub AnswersOnly : List ℕ → List Symbol → Result (List Made) PatternFault → Type 0

@@ -9,10 +9,10 @@ ghost use Rattle.pd_parser.specs.Forms as form_rules;
 ghost use Rattle.pd_parser.specs.Outcomes as outcomes;
 
 use crate::forms::make_forms;
+use crate::laws::one_outcome;
 use crate::place::Place;
-use grammar::Fault;
 use pd_ast::Form;
-use pd_files::{FormText, laws, read_file};
+use pd_files::{FormText, read_file};
 use pd_forms::check_depth;
 use pd_lexer::Token;
 use pd_names::check_names;
@@ -66,7 +66,32 @@ fn fault_here(kind: PatternKind, symbols: &[Symbol]) -> PatternFault
     }
 }
 
+/// The stages after that of depth, over the symbols of a file.
+fn judge_symbols(
+    alloc: Global,
+    source: &[u8],
+    symbols: &[Symbol],
+) -> Result<Items<Form>, PatternFault>
+    ensures { outcomes.ReadAnswers source.now symbols.now result }
+{
+    judge_file(alloc, source, read_file(alloc, source.len(), symbols))
+}
+
 /// The stages after lexing, over the symbols of a file.
+fn answer_symbols(
+    alloc: Global,
+    source: &[u8],
+    symbols: &[Symbol],
+) -> Result<Items<Form>, PatternFault>
+    ensures { outcomes.Answers source.now symbols.now result }
+{
+    match check_depth(symbols) {
+        Ok(()) => judge_symbols(alloc, source, symbols),
+        Err(fault) => Err(fault_here(fault.kind, fault.rest)),
+    }
+}
+
+/// The same, and no other answer is right.
 fn parse_symbols(
     alloc: Global,
     source: &[u8],
@@ -75,11 +100,8 @@ fn parse_symbols(
     ensures outcome { outcomes.Answers source.now symbols.now result }
     ensures only { outcomes.AnswersOnly source.now symbols.now result }
 {
-    laws::one_file();
-    match check_depth(symbols) {
-        Ok(()) => judge_file(alloc, source, read_file(alloc, source.len(), symbols)),
-        Err(Fault { kind, rest }) => Err(fault_here(kind, rest)),
-    }
+    one_outcome();
+    answer_symbols(alloc, source, symbols)
 }
 
 /// The forms of a pattern file by its tokens, or the first fault: of depth (TooDeep,

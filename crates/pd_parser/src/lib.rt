@@ -5,10 +5,10 @@
 //! after the other, each with what is known in its place (`Place`).
 #![tactic(auto)]
 
+mod file;
 mod forms;
 pub mod laws;
-mod parse;
 mod place;
 
-pub use parse::parse;
+pub use file::parse;
 pub use place::Place;

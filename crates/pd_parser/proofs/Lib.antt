@@ -1,0 +1,5 @@
+-- What is shown of whole files.
+mod Rounds
+mod Alike
+mod Depths
+mod OneOutcome
