@@ -10,4 +10,5 @@ mod orders;
 mod sharing;
 
 pub use groups::optional;
+pub use marks::first_wrong_mark;
 pub use orders::commute;

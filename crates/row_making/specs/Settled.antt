@@ -12,7 +12,11 @@ use Rattle.pred_inline.specs.Inlined.{cases_inlined, rows_inlined}
 use Rattle.pred_inline.specs.declared.case.Case.{Case}
 use Rattle.pred_inline.specs.declared.case.Predicate.{Predicate}
 
--- a row with another pattern
+-- a pattern in each choice of its groups, and each of these in all orders
+unfoldable pub settled_patterns : Pat → List Pat
+settled_patterns pattern = flat_map orders (optional_choices pattern)
+
+-- a row, and a case, on another pattern
 abbrev pub row_with : Row → Pat → Row
 row_with row pattern = record { at = row.at; pattern = pattern; result = row.result }
 
@@ -23,23 +27,25 @@ case_with case pattern = record {
   row = record { at = case.row.at; pattern = pattern; tail = case.row.tail };
 }
 
--- a pattern in each choice of its groups, and each of these in all orders
-abbrev pub settled_patterns : Pat → List Pat
-settled_patterns pattern = flat_map orders (optional_choices pattern)
+abbrev pub row_settled : Row → List Row
+row_settled row = map (row_with row) (settled_patterns row.pattern)
 
-abbrev pub rows_settled : Row → List Row
-rows_settled row = map (row_with row) (settled_patterns row.pattern)
+abbrev pub case_settled : Case → List Case
+case_settled case = map (case_with case) (settled_patterns case.row.pattern)
 
-abbrev pub cases_settled : Case → List Case
-cases_settled case = map (case_with case) (settled_patterns case.row.pattern)
+abbrev pub rows_settled : List Row → List Row
+rows_settled rows = flat_map row_settled rows
+
+abbrev pub cases_settled : List Case → List Case
+cases_settled cases = flat_map case_settled cases
 
 -- the rows of a row, so many of whose conditions stand outside, with these predicates above
 abbrev pub rows_made : List Predicate → Row → ℕ → List Row
-rows_made preds row conditions = flat_map rows_settled (rows_inlined preds row conditions)
+rows_made preds row conditions = rows_settled (rows_inlined preds row conditions)
 
 -- a case as it is written
 abbrev pub case_written : List Name → PredRow → Case
 case_written params row = record { params = params; same = []; row = row }
 
 abbrev pub cases_made : List Predicate → Case → ℕ → List Case
-cases_made preds case conditions = flat_map cases_settled (cases_inlined preds case conditions)
+cases_made preds case conditions = cases_settled (cases_inlined preds case conditions)
