@@ -17,7 +17,7 @@ use Rattle.row_making.specs.Compiled.{after_flat, after_flats, after_turn, after
 use Rattle.row_making.specs.Faults.{fault_in_turn, fault_in_turns, flat_fault, flats_fault, row_marks}
 use Rattle.row_making.specs.Settled.{rows_made}
 use Rattle.row_making.specs.declared.compiled.Compiled.{Compiled}
-use Rattle.row_making.proofs.Marks.{none_both}
+use Rattle.row_making.proofs.RightMarks.{none_both}
 
 within : (b : Bool) (at n : ℕ) → nat_lt 65536 n ≡ b → (if b then Some (record { kind = TooManyRows; at = at; len = 1 }) else None) ≡ None → n ≤ 65536
 within true at n is free = absurd cc

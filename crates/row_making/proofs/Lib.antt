@@ -1,6 +1,6 @@
-pub mod Limits
+pub mod Counts
 pub mod Judging
-pub mod Marks
+pub mod RightMarks
 pub mod Placed
 pub mod Few
-pub mod Whole
+pub mod WholeRows

@@ -17,7 +17,7 @@ pub fn check_count(at: usize, before: usize, more: usize) -> Result<(), PatternF
     }
 }
 
-#[tactic(auto, using(crate::proofs::Limits::few, crate::proofs::Limits::many))]
+#[tactic(auto, using(crate::proofs::Counts::few, crate::proofs::Counts::many))]
 fn many_fault(at: usize, before: usize, more: usize) -> Option<PatternFault>
     ensures { result ≡ many_fault at (before + more) }
 {

@@ -20,7 +20,7 @@ use std::alloc::Global;
 /// and `TooManyRows` for its choices of operators; then, choice by choice, what is wrong with its
 /// uses of predicates, `NotCommutative` at the first wrong mark, and `TooManyRows` where the rows of
 /// the file so far, or the cases of the predicate so far, are more than 65,536.
-#[tactic(auto, using(crate::proofs::Whole::whole_rows_of))]
+#[tactic(auto, using(crate::proofs::WholeRows::whole_rows_of))]
 pub fn make_rows(alloc: Global, forms: &[Form], size: usize) -> Result<Rows, PatternFault>
     ensures fault { Judges (fault_of forms.now) result }
     ensures value { IfOk result (λ rows. rows.list ≡ rows_of size forms.now) }

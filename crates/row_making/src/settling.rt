@@ -17,7 +17,7 @@ use std::alloc::Global;
 
 /// A pattern without wrong marks in each choice of its groups and in all orders. `TooManyRows` is at
 /// the `(` of the form.
-#[tactic(auto, unfolding(crate::specs::Settled::settled_patterns), using(crate::proofs::Marks::right_in_choices))]
+#[tactic(auto, unfolding(crate::specs::Settled::settled_patterns), using(crate::proofs::RightMarks::right_in_choices))]
 pub fn settled_patterns(
     alloc: Global,
     at: usize,
