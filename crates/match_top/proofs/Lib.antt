@@ -6,7 +6,9 @@ pub mod NameLemmas
 pub mod OneAnswer
 pub mod OptionLemmas
 pub mod PassLemmas
+pub mod PlaceLemmas
 pub mod ProgramLemmas
+pub mod RowFileLemmas
 pub mod RowLemmas
 pub mod RunLemmas
 pub mod SaysLemmas

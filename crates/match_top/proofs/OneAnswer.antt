@@ -28,11 +28,12 @@ use Rattle.match_top.specs.declared.commands.Command.{Command}
 use Rattle.match_top.specs.declared.commands.Command.TheVariants as commands
 use Rattle.match_top.specs.declared.passes.Pass.TheVariants.{Tidying, Numbering}
 use Rattle.match_top.specs.declared.needs.Kind.{Kind}
-use Rattle.match_top.specs.declared.needs.Kind.TheVariants.{Patterns, FirstForm, Functions}
+use Rattle.match_top.specs.declared.needs.Kind.TheVariants.{Patterns, FirstForm, Functions, Rows}
 use Rattle.match_top.specs.declared.patterns.PatternFile.{PatternFile}
 use Rattle.match_top.specs.declared.status.Status.{Status}
 use Rattle.match_top.specs.declared.status.Status.TheVariants.{Done}
 use Rattle.match_top.proofs.PassLemmas.{passes_once}
+use Rattle.match_top.proofs.RowFileLemmas.{one_row_file, one_line, accepted_or_refused}
 
 -- ---- refused files
 
@@ -82,16 +83,19 @@ one_value Patterns source a b p q =
     ap (λ (s : List ℕ). file_of s a.rows) (p.0 ∙ sym q.0) ∙ ap (file_of b.source) rows
 one_value FirstForm source a b p q = one_for_text source a b p q
 one_value Functions source a b p q = one_list source a b p.stands q.stands
+one_value Rows source a b p q = one_row_file source a b p q
 
 one_text : (kind : Kind) (source t u : List ℕ) → needs.IsRefusedWith kind source t → needs.IsRefusedWith kind source u → t ≡ u
 one_text Patterns source t u p q = p.1 ∙ sym q.1
 one_text FirstForm source t u p q = p.1 ∙ sym q.1
 one_text Functions source t u p q = refused_once source t u p q
+one_text Rows source t u p q = one_line source t u p q
 
 not_both : (kind : Kind) (source t : List ℕ) (a : Value kind) → StandsFor kind source a → needs.IsRefusedWith kind source t → ⊥
 not_both Patterns source t a p q = q.0 a.rows p.1
 not_both FirstForm source t a p q = q.0 a p
 not_both Functions source t a p q = accepted_not_refused source t a p q
+not_both Rows source t a p q = accepted_or_refused source t a p q
 
 -- ---- answers
 
@@ -202,6 +206,7 @@ by_command : (command : Option Command) → Determined (needs_of command) (work_
 by_command None = λ x y p q. p ∙ sym q
 by_command (Some (commands.Simplify command)) = λ file f x y p q. p ∙ sym q
 by_command (Some (commands.Check name)) = λ fs x y p q. p ∙ sym q
+by_command (Some (commands.Compile name)) = λ file x y p q. p ∙ sym q
 by_command (Some (commands.Run command)) = λ fs x y p q. p ∙ sym q
 by_command (Some (commands.Tidy name)) = passes_once Tidying
 by_command (Some (commands.Number name)) = passes_once Numbering

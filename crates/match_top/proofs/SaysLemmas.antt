@@ -10,6 +10,7 @@ use Rattle.pm_io.specs.InputState.{InputState}
 use Rattle.match_top.specs.Answer.{Answer, status_of, refusal, OrMemory}
 use Rattle.match_top.specs.Commands.{no_command, no_command_ends, needs_of, work_of, is_of_work, may_end}
 use Rattle.match_top.specs.Check.{checked, check_ends}
+use Rattle.match_top.specs.Compile.{compiled, compile_ends}
 use Rattle.match_top.specs.Given.{Given, Bytes, Missing, TooLong, Unread, NoRoom, Gives, Give, IsRefusal, Judges, ComesTo, GoesOn, Work, Answers, Answered}
 use Rattle.match_top.specs.Needs.{Need, Value, cause_of, limit_of, too_long_text}
 use Rattle.match_top.specs.Passes.{Passes, pass_ends}
@@ -22,12 +23,12 @@ use Rattle.match_top.specs.Writing.{Sunk, Writes}
 use Rattle.match_top.specs.declared.answer.Stop.{Stop}
 use Rattle.match_top.specs.declared.answer.Stop.TheVariants.{Memory, Refusal}
 use Rattle.match_top.specs.declared.commands.Command.{Command}
-use Rattle.match_top.specs.declared.commands.Command.TheVariants.{Simplify, Check, Run, Tidy, Number}
+use Rattle.match_top.specs.declared.commands.Command.TheVariants.{Simplify, Check, Compile, Run, Tidy, Number}
 use Rattle.match_top.specs.declared.commands.run.Run as run
 use Rattle.match_top.specs.declared.needs.Kind.{Kind}
 use Rattle.match_top.specs.declared.passes.Pass.{Pass}
 use Rattle.match_top.specs.declared.passes.Pass.TheVariants.{Tidying, Numbering}
-use Rattle.match_top.specs.declared.needs.Kind.TheVariants.{Patterns, FirstForm, Functions}
+use Rattle.match_top.specs.declared.needs.Kind.TheVariants.{Patterns, FirstForm, Functions, Rows}
 use Rattle.match_top.specs.declared.patterns.PatternFile.{PatternFile}
 use Rattle.match_top.specs.declared.status.Cause.{Cause}
 use Rattle.match_top.specs.declared.status.Cause.TheVariants as causes
@@ -81,6 +82,7 @@ within : (command : Option Command) → Within (may_end command) (needs_of comma
 within None = λ answer is. by_answer no_command_ends answer no_command is refl
 within (Some (Simplify command)) = λ file f answer is. by_answer simplify_ends answer (simplified file f) is (simplified_ends file f)
 within (Some (Check name)) = λ fs answer is. by_answer check_ends answer (checked fs) is refl
+within (Some (Compile name)) = λ file answer is. by_answer compile_ends answer (compiled file) is refl
 within (Some (Run command)) = λ fs answer is. by_answer run_ends answer (ran command fs) is (ran_ends command fs)
 within (Some (Tidy name)) = passed_ends Tidying
 within (Some (Number name)) = passed_ends Numbering
@@ -175,18 +177,23 @@ module _ (held : List ℕ → Option (List ℕ)) (command : Option Command) (fai
   refused_says Patterns causes.NoCommand is r = absurd cc
   refused_says FirstForm causes.NoCommand is r = absurd cc
   refused_says Functions causes.NoCommand is r = absurd cc
+  refused_says Rows causes.NoCommand is r = absurd cc
   refused_says Patterns causes.NoFile is r = absurd cc
   refused_says FirstForm causes.NoFile is r = absurd cc
   refused_says Functions causes.NoFile is r = absurd cc
+  refused_says Rows causes.NoFile is r = absurd cc
   refused_says Patterns causes.Undefined is r = absurd cc
   refused_says FirstForm causes.Undefined is r = absurd cc
   refused_says Functions causes.Undefined is r = absurd cc
+  refused_says Rows causes.Undefined is r = absurd cc
   refused_says Patterns causes.OutOfFuel is r = absurd cc
   refused_says FirstForm causes.OutOfFuel is r = absurd cc
   refused_says Functions causes.OutOfFuel is r = absurd cc
+  refused_says Rows causes.OutOfFuel is r = absurd cc
   refused_says Patterns causes.NoRun is r = absurd cc
   refused_says FirstForm causes.NoRun is r = absurd cc
   refused_says Functions causes.NoRun is r = absurd cc
+  refused_says Rows causes.NoRun is r = absurd cc
 
   why_says : (answer : Answer) → Why held failed (needs_of command) (work_of command) answer → StatusSays held command failed (status_of answer)
   why_says answer (ended e) = done_says (status_of answer) (ends_known held (may_end command) (needs_of command) (work_of command) (status_of answer) (within command) e) e
@@ -245,6 +252,7 @@ none_ends : (command : Option Command) → may_end command (Refused causes.NoCom
 none_ends None e = refl
 none_ends (Some (Simplify command)) e = absurd cc
 none_ends (Some (Check name)) e = absurd cc
+none_ends (Some (Compile name)) e = absurd cc
 none_ends (Some (Run command)) e = absurd cc
 none_ends (Some (Tidy name)) e = absurd cc
 none_ends (Some (Number name)) e = absurd cc
@@ -253,6 +261,7 @@ kind_apart : (kind : Kind) → Refused causes.NoCommand ≡ Refused (cause_of ki
 kind_apart Patterns e = cc
 kind_apart FirstForm e = cc
 kind_apart Functions e = cc
+kind_apart Rows e = cc
 
 pub refused_words : (command : Option Command) (before after : InputState) (answer : Answer) (out report : Sunk) (number : ℕ)
     → Answered (needs_of command) (work_of command) before after answer → Writes answer out report number → number ≡ code (Refused causes.NoCommand) → command ≡ None

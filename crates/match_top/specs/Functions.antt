@@ -1,7 +1,6 @@
 -- Whole GIMPLE files: which are accepted, and why the others are refused.
-use Rattle.std.specs.Prelude.{◌≡◌, ℕ, Bool, true, false, if◌then◌else◌, Option, Some, None, List, [], ◌∷◌, ◌++◌, take, drop, codes, decimal}
+use Rattle.std.specs.Prelude.{◌≡◌, ℕ, Bool, true, false, if◌then◌else◌, Option, Some, None, List, [], ◌∷◌, ◌++◌, codes, decimal}
 use Rattle.std.specs.List.{AllByRecursion}
-use Rattle.pm_places.specs.Places.{line_of, column_of}
 use Rattle.gim_ast.specs.declared.function.Function.{Function}
 use Rattle.gim_printer.specs.Printing.{assigned_text}
 use Rattle.gim_ast.specs.Readable.{IsValid, IsFirstUnreadable}
@@ -9,7 +8,7 @@ use Rattle.gim_text.specs.declared.fault.GimpleFault.{GimpleFault}
 use Rattle.gim_text.specs.declared.fault.GimpleKind.{GimpleKind}
 use Rattle.gim_text.specs.declared.fault.GimpleKind.TheVariants.{Memory, Lex, Syntax, Unsupported, Redefined, Undeclared, WideLiteral, MissingBlock, BadPhi, NoReturn, TypeMismatch, TooLarge}
 use Rattle.gim_reader.specs.Files.{IsFile, IsFileFault}
-use Rattle.match_top.specs.Refusals.{fault_text}
+use Rattle.match_top.specs.Refusals.{fault_text, place_in, token_at}
 
 -- ---- accepted files
 
@@ -51,11 +50,7 @@ names_its_token kind = false
 
 -- the bytes of the token, where the line names it
 abbrev pub named_token : List ℕ → GimpleFault → Option (List ℕ)
-named_token source fault = if names_its_token fault.kind then Some (take fault.len (drop fault.at source)) else None
-
--- the line and the column of a byte
-abbrev pub place_in : List ℕ → ℕ → ℕ × ℕ
-place_in source at = (line_of source at, column_of source at)
+named_token source fault = if names_its_token fault.kind then Some (token_at source fault.at fault.len) else None
 
 abbrev pub gimple_fault_text : List ℕ → GimpleFault → List ℕ
 gimple_fault_text source fault = fault_text (codes "gimple") (Some (place_in source fault.at)) (kind_text fault.kind) (named_token source fault)

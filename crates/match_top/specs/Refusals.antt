@@ -1,10 +1,19 @@
 -- The lines of refusals.
-use Rattle.std.specs.Prelude.{ℕ, List, [], ◌∷◌, ◌++◌, Option, codes, decimal}
+use Rattle.std.specs.Prelude.{ℕ, List, [], ◌∷◌, ◌++◌, Option, codes, decimal, take, drop}
+use Rattle.pm_places.specs.Places.{line_of, column_of}
 use Rattle.std.specs.Option.{option_map_or}
 
 -- a text as a line
 abbrev pub line : List ℕ → List ℕ
 line text = text ++ 10 ∷ []
+
+-- the line and the column of a byte
+abbrev pub place_in : List ℕ → ℕ → ℕ × ℕ
+place_in source at = (line_of source at, column_of source at)
+
+-- so many bytes from a place on
+abbrev pub token_at : List ℕ → ℕ → ℕ → List ℕ
+token_at source at len = take len (drop at source)
 
 -- a line and a column
 abbrev pub place_text : ℕ × ℕ → List ℕ

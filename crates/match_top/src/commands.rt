@@ -4,6 +4,7 @@ ghost use Rattle.match_top.specs.Commands.{command_of, needs_of, work_of};
 ghost use Rattle.match_top.specs.Given.{Answered};
 
 mod check;
+mod compile;
 pub mod number;
 mod run;
 mod simplify;
@@ -28,6 +29,8 @@ pub enum Command {
     Simplify(Simplify),
     /// `check G`, with the name of the file.
     Check(Word),
+    /// `compile P`, with the name of the file.
+    Compile(Word),
     /// `run G F V.. [--fuel N]`.
     Run(Run),
     /// `tidy G`, with the name of the file.
@@ -46,6 +49,7 @@ pub fn settings(alloc: Global, words: &[String]) -> Result<Option<Command>, OutO
     match word.as_str() {
         "simplify" => Ok(simplify::spelled(alloc, rest)?.map(Command::Simplify)),
         "check" => Ok(file_named(alloc, rest)?.map(Command::Check)),
+        "compile" => Ok(file_named(alloc, rest)?.map(Command::Compile)),
         "run" => Ok(run::spelled(alloc, rest)?.map(Command::Run)),
         "tidy" => Ok(file_named(alloc, rest)?.map(Command::Tidy)),
         "number" => Ok(file_named(alloc, rest)?.map(Command::Number)),
@@ -65,6 +69,7 @@ pub fn answer<I: Inputs>(
     match command {
         Some(Command::Simplify(command)) => simplify::answer(alloc, inputs, &command),
         Some(Command::Check(name)) => check::answer(alloc, inputs, &name),
+        Some(Command::Compile(name)) => compile::answer(alloc, inputs, &name),
         Some(Command::Run(command)) => run::answer(alloc, inputs, &command),
         Some(Command::Tidy(name)) => passes::answer(alloc, inputs, Pass::Tidying, &name),
         Some(Command::Number(name)) => passes::answer(alloc, inputs, Pass::Numbering, &name),

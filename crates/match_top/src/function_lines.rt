@@ -11,7 +11,7 @@ ghost use Rattle.match_top.specs.declared.status.Cause.TheVariants.{BadFunctions
 
 use crate::answer::Stop;
 use crate::needs::Kind;
-use crate::refusals::faulty;
+use crate::refusals::{faulty, token_at};
 use crate::status::Cause;
 use gim_ast::Function;
 use gim_printer::{push_assigned, push_number};
@@ -48,9 +48,7 @@ fn named_token<'a>(source: &'a [u8], fault: &GimpleFault) -> Option<&'a [u8]>
     if !names_its_token(fault.kind) {
         return None;
     }
-    let (_, rest) = source.split_at(fault.at.min(source.len()));
-    let (token, _) = rest.split_at(fault.len.min(rest.len()));
-    Some(token)
+    Some(token_at(source, fault.at, fault.len))
 }
 
 /// Whether the line of a fault names the token.

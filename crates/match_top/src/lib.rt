@@ -16,6 +16,7 @@ mod printing;
 mod program;
 mod refusals;
 mod report;
+mod row_files;
 mod status;
 mod words;
 mod writing;

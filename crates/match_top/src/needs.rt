@@ -17,6 +17,8 @@ pub enum Kind {
     FirstForm,
     /// A GIMPLE file.
     Functions,
+    /// A pattern file.
+    Rows,
 }
 
 impl Kind {
@@ -25,7 +27,7 @@ impl Kind {
         ensures { result ≡ cause_of self }
     {
         match self {
-            Kind::Patterns => Cause::BadPatterns,
+            Kind::Patterns | Kind::Rows => Cause::BadPatterns,
             Kind::FirstForm | Kind::Functions => Cause::BadFunctions,
         }
     }
@@ -35,7 +37,7 @@ impl Kind {
         ensures { result.now ≡ head_of self }
     {
         match self {
-            Kind::Patterns => "patterns",
+            Kind::Patterns | Kind::Rows => "patterns",
             Kind::FirstForm | Kind::Functions => "gimple",
         }
     }
@@ -46,7 +48,7 @@ impl Kind {
         ensures short { result < 2 ^ 31 }
     {
         match self {
-            Kind::Patterns => PATTERNS_LIMIT,
+            Kind::Patterns | Kind::Rows => PATTERNS_LIMIT,
             Kind::FirstForm | Kind::Functions => FILE_LIMIT,
         }
     }
@@ -56,7 +58,7 @@ impl Kind {
         ensures { result.now ≡ too_long_word self }
     {
         match self {
-            Kind::Patterns => "TooLong",
+            Kind::Patterns | Kind::Rows => "TooLong",
             Kind::FirstForm | Kind::Functions => "TooLarge",
         }
     }

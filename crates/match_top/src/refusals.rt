@@ -1,9 +1,9 @@
 //! The lines of refusals.
-ghost use Rattle.std.specs.Prelude.{◌≡◌, ◌++◌, ◌∷◌, [], IfOk, OnOk};
+ghost use Rattle.std.specs.Prelude.{◌≡◌, ◌<◌, ◌^◌, ◌++◌, ◌∷◌, [], length, IfOk, OnOk};
 ghost use Rattle.std.specs.Option.{option_copied, option_map_or};
 ghost use Rattle.match_top.specs.Answer.{refusal, OrMemory};
 ghost use Rattle.match_top.specs.Needs.{head_of, cause_of};
-ghost use Rattle.match_top.specs.Refusals.{line, place_text, token_text, fault_text};
+ghost use Rattle.match_top.specs.Refusals.{line, place_in, place_text, token_at, token_text, fault_text};
 
 use crate::answer::Stop;
 use crate::needs::Kind;
@@ -11,6 +11,7 @@ use crate::status::Cause;
 use gim_printer::push_number;
 use pm_items::Items;
 use pm_ops::OutOfMemory;
+use pm_places::line_column;
 use std::alloc::Global;
 
 /// A refusal whose line is these words and then a name.
@@ -32,6 +33,24 @@ fn refusal_line(alloc: Global, words: &str, name: &str) -> Result<Items<u8>, Out
     text.extend_from_slice(name.as_bytes())?;
     text.extend_from_slice(b"\n")?;
     Ok(text)
+}
+
+/// The line and the column of a byte, or of the end where the text ends before it.
+#[tactic(auto, using(crate::proofs::PlaceLemmas::up_to_the_end))]
+pub fn place_at(source: &[u8], at: usize) -> (u32, u32)
+    requires { length source.now < 2 ^ 31 }
+    ensures { result ≡ place_in source.now at }
+{
+    line_column(source, at.min(source.len()))
+}
+
+/// So many bytes from a place on.
+pub fn token_at(source: &[u8], at: usize, len: usize) -> &[u8]
+    ensures { result.now ≡ token_at source.now at len }
+{
+    let (_, rest) = source.split_at(at.min(source.len()));
+    let (token, _) = rest.split_at(len.min(rest.len()));
+    token
 }
 
 /// The refusal of a file for a fault: the line and the column where it has a place, the kind of fault, and the token where that is

@@ -9,6 +9,9 @@ returns-in-Some-Simplify-clause-answered g c = rw (c.in-Some-Simplify.is, c.in-S
 pub returns-in-Some-Check-clause-answered : goal.returns-in-Some-Check-clause-answered
 returns-in-Some-Check-clause-answered g c = rw (c.in-Some-Check.is, c.in-Some-Check.field-0-is) c.answer-in-Some-Check.ensures
 
+pub returns-in-Some-Compile-clause-answered : goal.returns-in-Some-Compile-clause-answered
+returns-in-Some-Compile-clause-answered g c = rw (c.in-Some-Compile.is, c.in-Some-Compile.field-0-is) c.answer-in-Some-Compile.ensures
+
 pub returns-in-Some-Run-clause-answered : goal.returns-in-Some-Run-clause-answered
 returns-in-Some-Run-clause-answered g c = rw (c.in-Some-Run.is, c.in-Some-Run.field-0-is) c.answer-in-Some-Run.ensures
 
