@@ -1,6 +1,7 @@
--- The types that the text of a result decides: whether an operation has one of its own, or is asked for one, whichever operations its
--- heads stand for. A head stands for each of its operations, apart from what the other heads stand for.
-use Rattle.std.specs.Prelude.{ℕ, zero, suc, Bool, true, false, ◌&&◌, is_some, is_none, List, [], ◌∷◌, map, flat_map, Option, Some, None, if◌then◌else◌}
+-- Whether the text of a result decides that an operation has a type, whichever operations its heads stand for.
+--
+-- A choice takes for each operation of a result one of those that its head stands for, apart from what it takes for the others.
+use Rattle.std.specs.Prelude.{ℕ, Bool, true, false, ◌&&◌, is_some, is_none, List, [], ◌∷◌, map, flat_map, Option, Some, None, if◌then◌else◌}
 use Rattle.std.specs.List.{list_any}
 use Rattle.pm_ops.specs.declared.code.Code.{Code}
 use Rattle.pm_places.specs.Spans.{text_of}
@@ -8,7 +9,9 @@ use Rattle.result_types.specs.TypeRules.{Kind, own_of_code, asked_by_code}
 use Rattle.pd_forms.specs.declared.tree.HeadText.{HeadText}
 use Rattle.pd_forms.specs.Results as results
 use Rattle.pd_forms.specs.Results.{Leaf, Leaves, Result, Results}
-use Rattle.pd_typing.specs.declared.listed.Entries.{Entries}
+use Rattle.pd_typing.specs.declared.setting.Setting.{Setting}
+use Rattle.pd_typing.specs.declared.owns.Owns.{Owns}
+use Rattle.pd_typing.specs.declared.owns.Lacking.{Lacking}
 use Rattle.pd_typing.specs.Entries.{head_codes}
 
 -- a type that is known, without saying which; None where there is none
@@ -18,73 +21,122 @@ AType = Option (Unit {0})
 abbrev pub known_types : Kind (Unit {0})
 known_types = record { truth = tt; without_sign = λ t. tt; with_sign = λ t. Some tt }
 
+-- A leaf of a result under a choice: a capture or a brace, or an operation, which may have a type after `:`.
+mutual
+  pub data Chosen : Type 0 where
+    operand : Chosen
+    operation : Bool → Code → ManyChosen → Chosen
+
+  pub data ManyChosen : Type 0 where
+    nil : ManyChosen
+    cons : Chosen → ManyChosen → ManyChosen
+
 -- what a head stands for
-abbrev pub codes_of : List ℕ → Entries → HeadText → List Code
-codes_of source entries head = head_codes source entries (text_of source head.name)
-
--- the own type of an operation under each choice, where these are those of its first three operands
-abbrev pub owns_by : List Code → List AType → List AType → List AType → List AType
-owns_by codes first second third =
-    flat_map (λ code. flat_map (λ a. flat_map (λ b. map (λ c. own_of_code known_types code a b c) third) second) first) codes
+abbrev pub codes_of : List ℕ → Setting → HeadText → List Code
+codes_of source setting head = head_codes source setting (text_of source head.name)
 
 abbrev mutual
-  -- its own type under each choice: captures and braces have one, and so has an operation with a type after `:`
-  pub owns : List ℕ → Entries → Leaf → List AType
-  owns source entries (results.capture at) = Some tt ∷ []
-  owns source entries (results.brace at e) = Some tt ∷ []
-  owns source entries (results.operation at head ls) =
-      if is_some head.label then Some tt ∷ []
-      else owns_by (codes_of source entries head) (owns_at source entries 0 ls) (owns_at source entries 1 ls) (owns_at source entries 2 ls)
+  -- a leaf under each choice
+  pub choices_of : List ℕ → Setting → Leaf → List Chosen
+  choices_of source setting (results.capture at) = operand ∷ []
+  choices_of source setting (results.brace at e) = operand ∷ []
+  choices_of source setting (results.operation at head ls) =
+      flat_map (λ code. map (operation (is_some head.label) code) (all_choices_of source setting ls)) (codes_of source setting head)
 
-  -- the same of the operand at this place, or of none there
-  pub owns_at : List ℕ → Entries → ℕ → Leaves → List AType
-  owns_at source entries at results.nil = None ∷ []
-  owns_at source entries zero (results.cons l ls) = owns source entries l
-  owns_at source entries (suc at) (results.cons l ls) = owns_at source entries at ls
+  pub all_choices_of : List ℕ → Setting → Leaves → List ManyChosen
+  all_choices_of source setting results.nil = nil ∷ []
+  all_choices_of source setting (results.cons l ls) = flat_map (λ c. map (cons c) (all_choices_of source setting ls)) (choices_of source setting l)
 
-abbrev pub asked_at : ℕ → AType × AType × AType → AType
-asked_at zero asked = asked.0
-asked_at (suc zero) asked = asked.1
-asked_at at asked = asked.2
+-- The types of the first three operands; none stands for one that isn't there.
 
--- what an operation that has a type asks of the operand at this place, under each choice of its own operation and of the operands
--- beside that one
-abbrev pub asks : ℕ → List Code → List AType → List AType → List AType
-asks at codes first second = flat_map (λ code. flat_map (λ a. map (λ b. asked_at at (asked_by_code known_types code tt a b)) second) first) codes
+abbrev pub first : List AType → AType
+first [] = None
+first (t ∷ ts) = t
 
--- What the operand at this place has of its own does not decide what it is asked for: only a comparison asks by an operand, and of the
--- other one. So it lacks a type under some choice where it has none of its own under one and is asked for none under another. Its
--- operation has a type, or is a fault itself, at a place before its operands.
-abbrev pub is_unknown : List ℕ → Entries → Leaf → ℕ → Bool
-is_unknown source entries (results.operation at head ls) place =
-    list_any is_none (owns_at source entries place ls)
-    && list_any is_none (asks place (codes_of source entries head) (owns_at source entries 0 ls) (owns_at source entries 1 ls))
-is_unknown source entries l place = false
+abbrev pub second : List AType → AType
+second [] = None
+second (t ∷ ts) = first ts
 
--- A head that stands for no operation leaves the whole result without choices.
+abbrev pub third : List AType → AType
+third [] = None
+third (t ∷ ts) = second ts
 
-abbrev pub is_entry : List Code → Bool
-is_entry [] = false
-is_entry (code ∷ codes) = true
+-- the own type of an operation on operands of these own types: one after `:`, or one by its code
+abbrev pub own_on : Bool → Code → List AType → AType
+own_on labelled code ts = if labelled then Some tt else own_of_code known_types code (first ts) (second ts) (third ts)
 
 abbrev mutual
-  pub has_choice : List ℕ → Entries → Leaf → Bool
-  has_choice source entries (results.capture at) = true
-  has_choice source entries (results.brace at e) = true
-  has_choice source entries (results.operation at head ls) = is_entry (codes_of source entries head) && have_choice source entries ls
+  pub own : Chosen → AType
+  own operand = Some tt
+  own (operation labelled code cs) = own_on labelled code (owns_of cs)
 
-  pub have_choice : List ℕ → Entries → Leaves → Bool
-  have_choice source entries results.nil = true
-  have_choice source entries (results.cons l ls) = has_choice source entries l && have_choice source entries ls
+  pub owns_of : ManyChosen → List AType
+  owns_of nil = []
+  owns_of (cons c cs) = own c ∷ owns_of cs
+
+-- what an operation that has a type asks of its operands
+abbrev pub asked : Code → List AType → AType × AType × AType
+asked code ts = asked_by_code known_types code tt (first ts) (second ts)
+
+-- An operand of an operation that has a type lacks one: it has none of its own and is asked for none.
+
+abbrev pub lacks_first : Code → List AType → Bool
+lacks_first code ts = is_none (first ts) && is_none (asked code ts).0
+
+abbrev pub lacks_second : Code → List AType → Bool
+lacks_second code ts = is_none (second ts) && is_none (asked code ts).1
+
+abbrev pub lacks_third : Code → List AType → Bool
+lacks_third code ts = is_none (third ts) && is_none (asked code ts).2
+
+-- of an operation under a choice
+abbrev pub in_operation : (Code → List AType → Bool) → Chosen → Bool
+in_operation lacks operand = false
+in_operation lacks (operation labelled code cs) = lacks code (owns_of cs)
+
+-- ---- under some choice
+
+-- a leaf has an own type under some choice; it lacks one under some choice
+abbrev pub owns : List ℕ → Setting → Leaf → Owns
+owns source setting l =
+    record {
+      has = list_any (λ c. is_some (own c)) (choices_of source setting l);
+      lacks = list_any (λ c. is_none (own c)) (choices_of source setting l);
+    }
+
+-- which operands of an operation that has a type lack one under some choice
+abbrev pub lacking : List ℕ → Setting → Leaf → Lacking
+lacking source setting l =
+    record {
+      first = list_any (in_operation lacks_first) (choices_of source setting l);
+      second = list_any (in_operation lacks_second) (choices_of source setting l);
+      third = list_any (in_operation lacks_third) (choices_of source setting l);
+    }
+
+-- ---- A head that stands for no operation leaves the whole result without choices.
+
+abbrev pub is_some_code : List Code → Bool
+is_some_code [] = false
+is_some_code (code ∷ codes) = true
 
 abbrev mutual
-  pub result_has_choice : List ℕ → Entries → Result → Bool
-  result_has_choice source entries (results.leaf l) = has_choice source entries l
-  result_has_choice source entries (results.when c a) = result_has_choice source entries a
-  result_has_choice source entries (results.choose c a b) = result_has_choice source entries a && result_has_choice source entries b
-  result_has_choice source entries (results.switch rs) = results_have_choice source entries rs
-  result_has_choice source entries (results.bound ds a) = result_has_choice source entries a
+  pub has_choice : List ℕ → Setting → Leaf → Bool
+  has_choice source setting (results.capture at) = true
+  has_choice source setting (results.brace at e) = true
+  has_choice source setting (results.operation at head ls) = is_some_code (codes_of source setting head) && have_choice source setting ls
 
-  pub results_have_choice : List ℕ → Entries → Results → Bool
-  results_have_choice source entries results.none = true
-  results_have_choice source entries (results.more r rs) = result_has_choice source entries r && results_have_choice source entries rs
+  pub have_choice : List ℕ → Setting → Leaves → Bool
+  have_choice source setting results.nil = true
+  have_choice source setting (results.cons l ls) = has_choice source setting l && have_choice source setting ls
+
+abbrev mutual
+  pub result_has_choice : List ℕ → Setting → Result → Bool
+  result_has_choice source setting (results.leaf l) = has_choice source setting l
+  result_has_choice source setting (results.when c a) = result_has_choice source setting a
+  result_has_choice source setting (results.choose c a b) = result_has_choice source setting a && result_has_choice source setting b
+  result_has_choice source setting (results.switch rs) = results_have_choice source setting rs
+  result_has_choice source setting (results.bound ds a) = result_has_choice source setting a
+
+  pub results_have_choice : List ℕ → Setting → Results → Bool
+  results_have_choice source setting results.none = true
+  results_have_choice source setting (results.more r rs) = result_has_choice source setting r && results_have_choice source setting rs
