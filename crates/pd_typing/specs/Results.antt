@@ -31,15 +31,18 @@ abbrev mutual
   part_of_result source setting any (results.bound ds a) =
       and_then (decls_made source setting ds) (λ decls. and_then (part_of_result source (below setting decls) any a) (λ gives. Ok (out.With decls gives)))
 
-  pub case_made : List ℕ → Setting → Bool → Expr → Result → Made SwitchCase PatternFault
-  case_made source setting any c a = and_then (condition_made source setting c) (λ when. and_then (part_of_result source setting any a) (λ gives. Ok (case_of when gives)))
-
   -- The items of a `switch`, after cases before them: an `if` without a second part is a case, and any other item is the last.
   pub items_made : List ℕ → Setting → Bool → List SwitchCase → Results → Made Out PatternFault
   items_made source setting any cases results.none = Ok (out.Switch cases None)
   items_made source setting any cases (results.more (results.when c a) rs) =
-      and_then (case_made source setting any c a) (λ one. items_made source setting any (cases ++ one ∷ []) rs)
+      and_then (and_then (condition_made source setting c) (λ when. and_then (part_of_result source setting any a) (λ gives. Ok (case_of when gives))))
+      (λ one. items_made source setting any (cases ++ one ∷ []) rs)
   items_made source setting any cases (results.more r rs) = and_then (part_of_result source setting any r) (λ last. Ok (out.Switch cases (Some last)))
+
+-- a case of a `switch`
+abbrev pub case_made : List ℕ → Setting → Bool → Expr → Result → Made SwitchCase PatternFault
+case_made source setting any c a =
+    and_then (condition_made source setting c) (λ when. and_then (part_of_result source setting any a) (λ gives. Ok (case_of when gives)))
 
 -- a whole result
 abbrev pub result_made : List ℕ → Setting → Result → Made Out PatternFault

@@ -9,7 +9,7 @@ ghost use Rattle.pd_forms.specs.Results.{leaf_of, leaves, operation};
 ghost use Rattle.pd_typing.specs.Leaves as leaf_rules;
 
 use crate::entries::operator_of;
-use crate::owns::{Lacking, lacking};
+use crate::owns::{Lacking, find_lacking};
 use crate::parts::make_label;
 use crate::setting::Setting;
 use cond_subset::{ExprText, make_brace};
@@ -110,7 +110,7 @@ pub(crate) fn make_leaf(
         LeafText::Brace(_, value) => make_value(alloc, source, setting, value),
         LeafText::Operation(at, head, operands) => {
             let ty = make_label(alloc, source, setting, head.label)?;
-            let lacks = lacking(alloc, source, setting, *at, *head, operands.as_slice())?;
+            let lacks = find_lacking(alloc, source, setting, *at, *head, operands.as_slice())?;
             let args = make_leaves(alloc, source, setting, any, lacks, operands.as_slice())?;
             Ok(make_node(alloc, source, setting, *head, ty, args)?)
         }

@@ -31,7 +31,7 @@ pub struct Lacking {
 
 /// What a leaf may have and lack.
 #[cycle(owns)]
-fn owns(
+fn find_owns(
     alloc: Global,
     source: &[u8],
     setting: &Setting,
@@ -79,14 +79,14 @@ fn owns_of_all(
 {
     let mut all = Items::new(alloc);
     for operand in operands {
-        let one = owns(alloc, source, setting, operand)?;
+        let one = find_owns(alloc, source, setting, operand)?;
         all.push(one)?;
     }
     Ok(all)
 }
 
 /// Which operands of an operation that has a type lack one.
-pub(crate) fn lacking(
+pub(crate) fn find_lacking(
     alloc: Global,
     source: &[u8],
     setting: &Setting,

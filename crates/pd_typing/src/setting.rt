@@ -38,7 +38,7 @@ pub struct Outside {
 }
 
 /// The operations that the entries of a list stand for.
-fn listed(
+fn make_listed(
     alloc: Global,
     source: &[u8],
     lists: &[Listed],
@@ -89,7 +89,7 @@ pub fn add_list(
 ) -> Result<(), OutOfMemory>
     ensures { IfOk result (λ _. setting.new ≡ entry_rules.with_list source.now setting.old list.now) }
 {
-    let one = listed(alloc, source, setting.lists.as_slice(), list)?;
+    let one = make_listed(alloc, source, setting.lists.as_slice(), list)?;
     setting.lists.push(one)?;
     Ok(())
 }
@@ -103,7 +103,7 @@ fn add_choice(
 ) -> Result<(), OutOfMemory>
     ensures { IfOk result (λ _. setting.new ≡ entry_rules.with_choice source.now setting.old list.now) }
 {
-    let one = listed(alloc, source, setting.lists.as_slice(), list)?;
+    let one = make_listed(alloc, source, setting.lists.as_slice(), list)?;
     let name = Text::new(alloc, text(source, list.name))?;
     setting.choices.push(one)?;
     setting.scope.choices.push(name)?;
