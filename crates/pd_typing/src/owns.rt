@@ -51,6 +51,7 @@ fn find_owns(
 }
 
 /// What an operation may have and lack.
+#[tactic(auto, using(crate::proofs::Reckoned::operation_owns, crate::proofs::Reckoned::owns_mapped))]
 #[cycle(owns)]
 fn owns_of_operation(
     alloc: Global,
@@ -86,6 +87,7 @@ fn owns_of_all(
 }
 
 /// Which operands of an operation that has a type lack one.
+#[tactic(auto, using(crate::proofs::Reckoned::operation_lacking, crate::proofs::Reckoned::owns_mapped))]
 pub(crate) fn find_lacking(
     alloc: Global,
     source: &[u8],

@@ -40,6 +40,7 @@ fn make_part(
 }
 
 /// What stands below a block of declarations.
+#[tactic(auto, using(crate::proofs::Settings::take_front))]
 #[cycle(parts)]
 fn make_bound(
     alloc: Global,
