@@ -1,4 +1,5 @@
 pub mod CText
+pub mod Cursors
 pub mod Listing
 pub mod Patterns
 pub mod Results

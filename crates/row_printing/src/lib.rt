@@ -10,6 +10,7 @@ ghost use Rattle.std.specs.Prelude.{◌≡◌, ◌≤◌, ◌<◌, ◌^◌, IfOk
 ghost use Rattle.row_printing.specs.Listing.{listing};
 
 mod c_text;
+mod cursor;
 mod declarations;
 mod patterns;
 mod results;
