@@ -15,4 +15,5 @@ mod sameness;
 mod stmt_view;
 
 pub use places::{has_condition, has_operation};
+pub use sameness::{both_same, both_same_number};
 pub use stmt_view::StmtView;

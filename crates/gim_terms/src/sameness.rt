@@ -112,7 +112,7 @@ fn number_of(word: Wide) -> Number
 }
 
 /// Whether two operands are there and the same.
-pub(crate) fn both_same(a: Option<Operand>, b: Option<Operand>) -> bool
+pub fn both_same(a: Option<Operand>, b: Option<Operand>) -> bool
     ensures { result ≡ both is_same_operand a b }
 {
     match (a, b) {
@@ -123,7 +123,7 @@ pub(crate) fn both_same(a: Option<Operand>, b: Option<Operand>) -> bool
 }
 
 /// Whether two operands are there and have the same number, or are one name.
-pub(crate) fn both_same_number(a: Option<Operand>, b: Option<Operand>) -> bool
+pub fn both_same_number(a: Option<Operand>, b: Option<Operand>) -> bool
     ensures { result ≡ both is_same_number a b }
 {
     match (a, b) {
