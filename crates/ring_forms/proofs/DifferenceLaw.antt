@@ -1,23 +1,22 @@
 -- Differences that are one over whole numbers have one value, where all atoms have values; and an
 -- operation whose exact form is that of something whose atoms have values has a value.
-use Rattle.std.proofs.Common.{◌≡◌, ℕ, suc, ◌+◌, ◌<◌, ◌≤◌, ◌^◌, ◌==◌, Bool, true, false, cond, ◌&&◌, ◌⊎◌, inl, inr, Option, Some, None, List, [], ◌∷◌, ◌++◌, map, length, slice_get, refl, sym, ap, subst, ◌∙◌, arith}
-use Rattle.std.specs.Prelude.{ℤ, pos, neg_ℤ, ◌+ℤ◌, ◌-ℤ◌, ◌*ℤ◌, nat_eq, IsSome, IsTrue, ⊤}
+use Rattle.std.proofs.Common.{◌≡◌, ℕ, ◌<◌, Bool, true, false, cond, ◌&&◌, ◌⊎◌, inl, inr, Option, Some, None, List, [], ◌∷◌, ◌++◌, map, length, slice_get, refl, sym, ap, subst, ◌∙◌, arith}
+use Rattle.std.specs.Prelude.{ℤ, pos, neg_ℤ, ◌+ℤ◌, ◌-ℤ◌, ◌*ℤ◌, nat_eq, IsSome, IsTrue}
 use Rattle.std.specs.Cmp.Lexicographic.{pointwise}
-use Rattle.std.specs.Int.RustNames.{unsigned_abs}
 use Rattle.std.specs.List.{AllByRecursion}
 use Rattle.std.proofs.lemmas.Bool.{and_parts}
 use Rattle.std.proofs.lemmas.Int.{ints}
 use Rattle.pm_ops.specs.declared.code.Code.{Code}
 use Rattle.pm_wide.specs.Operations.{operation_value}
-use Rattle.pm_wide.specs.Types.{Ty, Word, value}
+use Rattle.pm_wide.specs.Types.{Ty, Word}
 use Rattle.pm_term.specs.Environments.{GivesWords}
 use Rattle.pm_term.specs.Terms.{operation_on, with_value, term_value, term_values}
 use Rattle.pm_term.specs.Trees.{Tree, name, constant, node, Trees, nil, cons, type_of, operations_of, IsWellTyped, AreWellTyped}
 use Rattle.pm_term.proofs.RefiningLaws.{on_values, both}
 use Rattle.ring_forms.specs.declared.atom.Atom.{Atom}
-use Rattle.ring_forms.specs.declared.atom.Atom.TheVariants.{Name, Operation}
+use Rattle.ring_forms.specs.declared.atom.Atom.TheVariants.{Operation}
 use Rattle.ring_forms.specs.declared.exact.Reading.{Reading}
-use Rattle.ring_forms.specs.Atoms.{same_entry, atom_number}
+use Rattle.ring_forms.specs.Atoms.{atom_number}
 use Rattle.ring_forms.specs.Differences.{number_alone, same_among, same_exactly, all_signed, have_exact_forms, exact_difference, AreOneExactly, exact_number_by, exact_number}
 use Rattle.ring_forms.specs.DifferenceValues.{values_difference}
 use Rattle.ring_forms.specs.ExactForms.{goes_exactly, exactly_expanded, atoms_in, atoms_of, with_met, have_exact_parts}
@@ -32,7 +31,7 @@ use Rattle.ring_forms.proofs.ExactDifferences as differences
 use Rattle.ring_forms.proofs.ExactDifferences.{signed_first, signed_rest}
 use Rattle.ring_forms.proofs.ExactLaw.{Valued, one_value, words_over, factors_of, all_met, all_ordered, left_of, right_of}
 use Rattle.ring_forms.proofs.ExactLimits.{met_number, IsMet, HeldMet, met_agree}
-use Rattle.ring_forms.proofs.ExactReadings.{exacts_over, Met, AllMet, exact_limited, all_exact_limited, all_afterwards, all_further}
+use Rattle.ring_forms.proofs.ExactReadings.{exacts_over, Met, AllMet, exact_limited, all_exact_limited, all_further}
 use Rattle.ring_forms.proofs.ExactValues.{nodes_value, exact_value}
 use Rattle.ring_forms.proofs.FixedTables.{operands_over, entry, total, total_append, total_negated, numbers}
 use Rattle.ring_forms.proofs.FormBounds.{operand_words}

@@ -1,5 +1,5 @@
 -- Differences are compared over whole numbers as the definition says.
-use Rattle.std.proofs.Common.{◌≡◌, ℕ, suc, ◌+◌, ◌<◌, ◌≤◌, ◌^◌, ◌%◌, Bool, true, false, not, cond, ◌&&◌, Option, Some, None, List, [], ◌∷◌, ◌++◌, refl, sym, ap, subst, ◌∙◌, arith}
+use Rattle.std.proofs.Common.{◌≡◌, ℕ, suc, ◌+◌, ◌<◌, ◌≤◌, ◌^◌, ◌%◌, Bool, true, false, not, cond, ◌&&◌, Option, Some, None, List, [], refl, sym, ap, subst, ◌∙◌, arith}
 use Rattle.std.specs.Prelude.{ℤ, pos, ◌+ℤ◌, ◌*ℤ◌, IsTrue, nat_eq}
 use Rattle.std.specs.Cmp.Lexicographic.{pointwise}
 use Rattle.std.specs.Int.RustNames.{unsigned_abs}
@@ -12,10 +12,10 @@ use Rattle.pm_term.specs.Trees.{Tree, Trees, nil, cons, type_of, operations_of, 
 use Rattle.ring_forms.specs.declared.exact.Reading.{Reading}
 use Rattle.ring_forms.specs.declared.form.Part.{Part}
 use Rattle.ring_forms.specs.Atoms.{same_parts}
-use Rattle.ring_forms.specs.Differences.{number_alone, same_among, same_exactly, all_signed, have_exact_forms, exact_difference, AreOneExactly, exact_number_by, exact_number}
+use Rattle.ring_forms.specs.Differences.{number_alone, same_among, same_exactly, all_signed, exact_difference, AreOneExactly, exact_number_by, exact_number}
 use Rattle.ring_forms.specs.DifferenceTables.{less, HaveOne, exact_difference_read, AreOneOverReading, number_of, number_read, word_or_none, exact_number_read}
 use Rattle.ring_forms.specs.ExactForms.{exactly_expanded, have_exact_parts}
-use Rattle.ring_forms.specs.ExactTables.{blank, exact_reads}
+use Rattle.ring_forms.specs.ExactTables.{blank}
 use Rattle.ring_forms.specs.Forms.{constant_form}
 use Rattle.ring_forms.specs.RingForms.{same_atom}
 use Rattle.ring_forms.specs.Sums.{Sum, coefficient, negated}
@@ -25,7 +25,7 @@ use Rattle.ring_forms.proofs.AtomLemmas.{form_decides}
 use Rattle.ring_forms.proofs.CleanForms.{Clean, hit, constant_clean, combined_clean}
 use Rattle.ring_forms.proofs.ExactLimits.{met_number, HeldMet, exact_stands, all_exact_clean, exact_parts_are, good_read, limited_coefficient, negated_bound, held_factors, met_agree}
 use Rattle.ring_forms.proofs.ExactReadings.{exact_over, exacts_over, AllMet, exact_limited, all_exact_limited, kept_exacts, kept_all_met, kept_all_limited, all_afterwards, all_further, all_met_afterwards, exact_reads_are}
-use Rattle.ring_forms.proofs.FixedTables.{total, total_append, numbers, StandsFor, unary_stands, binary_stands, nothing_stands, constant_stands}
+use Rattle.ring_forms.proofs.FixedTables.{total_append, numbers, StandsFor, binary_stands, nothing_stands, constant_stands}
 use Rattle.ring_forms.proofs.FormLimits.{same_numbered, numbered, coefficient_numbered, one_form_decides}
 use Rattle.ring_forms.proofs.SameSums.{Limited, exactly_is, exactly_agree, residue_value, number_told}
 use Rattle.ring_forms.proofs.WholeTotals.{size_sum}

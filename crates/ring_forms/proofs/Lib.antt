@@ -3,6 +3,7 @@ pub mod AtomLemmas
 pub mod CleanForms
 pub mod DepthLaw
 pub mod DifferenceLaw
+pub mod DigestLemmas
 pub mod ExactDifferences
 pub mod ExactLaw
 pub mod ExactLimits

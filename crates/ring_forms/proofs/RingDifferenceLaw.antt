@@ -2,20 +2,18 @@
 use Rattle.std.proofs.Common.{◌≡◌, ℕ, ◌≤◌, ◌==◌, Bool, true, false, cond, Option, Some, None, List, [], ◌∷◌, length, refl, sym, ap, subst, ◌∙◌, arith, eqb-true}
 use Rattle.std.specs.Prelude.{ℤ, pos, ◌+ℤ◌, ◌-ℤ◌, ◌*ℤ◌, IfSome}
 use Rattle.std.proofs.lemmas.Int.{ints}
-use Rattle.pm_ops.specs.declared.code.Code.TheVariants.{Minus}
 use Rattle.pm_wide.specs.Congruence.{Congruent}
 use Rattle.pm_wide.specs.Types.{Ty, Word, IsType, value}
 use Rattle.pm_wide.proofs.Congruence.{same, turned, joined, sums, differences}
-use Rattle.pm_wide.proofs.Whole.{mul-one}
 use Rattle.pm_term.specs.Environments.{GivesWords}
 use Rattle.pm_term.specs.Terms.{term_value}
 use Rattle.pm_term.specs.Trees.{Tree, name, constant, node, Trees, nil, cons, type_of, IsWellTyped}
 use Rattle.ring_forms.specs.declared.atom.Atom.{Atom}
 use Rattle.ring_forms.specs.declared.form.Part.{Part}
 use Rattle.ring_forms.specs.Differences.{AreOneModulo, ring_number}
-use Rattle.ring_forms.specs.DifferenceTables.{less, HaveOne, ring_difference_read, AreOneOverTable, number_of, number_of_part, number_read}
+use Rattle.ring_forms.specs.DifferenceTables.{less, HaveOne, ring_difference_read, number_of, number_of_part, number_read}
 use Rattle.ring_forms.specs.Forms.{negated_form}
-use Rattle.ring_forms.specs.TableForms.{and_forms, put_first, ring_form, ring_forms}
+use Rattle.ring_forms.specs.TableForms.{and_forms, put_first, ring_form}
 use Rattle.ring_forms.proofs.FormTotals.{sum_total, negated_total}
 use Rattle.ring_forms.proofs.FormValues.{atoms_value, form_value}
 use Rattle.ring_forms.proofs.RingDifferences.{one_over_table, number_is}

@@ -1,20 +1,20 @@
 -- Differences are compared modulo 2 ^ m as the definition says.
-use Rattle.std.proofs.Common.{◌≡◌, ℕ, suc, ◌+◌, ◌<◌, ◌≤◌, ◌^◌, Bool, true, false, cond, ◌&&◌, Option, Some, None, List, [], ◌∷◌, refl, sym, ap, subst, ◌∙◌, arith}
-use Rattle.std.specs.Prelude.{ℤ, pos, IsTrue}
+use Rattle.std.proofs.Common.{◌≡◌, ℕ, suc, ◌+◌, ◌<◌, Bool, true, false, cond, Option, Some, None, List, [], refl, sym, ap, subst, ◌∙◌, arith}
+use Rattle.std.specs.Prelude.{IsTrue}
 use Rattle.pm_ops.specs.declared.code.Code.TheVariants.{Minus}
 use Rattle.pm_wide.specs.Residues.{residue}
 use Rattle.pm_wide.specs.Types.{Ty, IsType}
 use Rattle.pm_wide.proofs.Values.{width_positive}
-use Rattle.pm_term.specs.Trees.{Tree, Trees, nil, cons, operations_of, AreWellTyped}
+use Rattle.pm_term.specs.Trees.{Trees, nil, cons, operations_of, AreWellTyped}
 use Rattle.ring_forms.specs.declared.atom.Atom.{Atom}
 use Rattle.ring_forms.specs.declared.form.Part.{Part}
 use Rattle.ring_forms.specs.Atoms.{same_parts}
 use Rattle.ring_forms.specs.Differences.{number_alone, same_among, ring_difference, AreOneModulo, ring_number_by, ring_number}
 use Rattle.ring_forms.specs.DifferenceTables.{less, HaveOne, ring_difference_read, AreOneOverTable, number_of, number_read, ring_number_read}
 use Rattle.ring_forms.specs.Forms.{constant_form}
-use Rattle.ring_forms.specs.RingForms.{expanded, form_coefficient, same_form, have_forms, same_atom}
-use Rattle.ring_forms.specs.Sums.{Sum, coefficient, negated}
-use Rattle.ring_forms.specs.TableForms.{combined_form, ring_forms}
+use Rattle.ring_forms.specs.RingForms.{expanded, same_form, have_forms, same_atom}
+use Rattle.ring_forms.specs.Sums.{coefficient, negated}
+use Rattle.ring_forms.specs.TableForms.{combined_form}
 use Rattle.ring_forms.proofs.Agreement.{Factors, form_agree, negated_factors, append_factors, coefficient_agree}
 use Rattle.ring_forms.proofs.AtomLemmas.{form_decides}
 use Rattle.ring_forms.proofs.CleanForms.{Clean, constant_clean, combined_clean}

@@ -1,9 +1,8 @@
 -- Whether two sums are one over whole numbers, and whether a sum is a number alone, told by the forms
 -- that stand for them.
-use Rattle.std.proofs.Common.{◌≡◌, ℕ, zero, suc, ◌<◌, ◌≤◌, ◌^◌, ◌-◌, ◌==◌, ◌%◌, Bool, true, false, cond, ◌&&◌, Option, Some, None, List, [], ◌∷◌, ◌++◌, length, map, refl, sym, ap, subst, ◌∙◌, arith, eq-eqb, eqb-true}
-use Rattle.std.specs.Prelude.{ℤ, pos, negsuc, neg_ℤ, ◌+ℤ◌, ◌*ℤ◌, nat_lt, nat_eq, IsTrue}
+use Rattle.std.proofs.Common.{◌≡◌, ℕ, zero, suc, ◌<◌, ◌≤◌, ◌^◌, ◌==◌, ◌%◌, Bool, true, false, cond, ◌&&◌, Option, Some, None, List, [], ◌∷◌, ◌++◌, length, refl, sym, ap, subst, ◌∙◌, arith, eq-eqb, eqb-true}
+use Rattle.std.specs.Prelude.{ℤ, pos, ◌+ℤ◌, ◌*ℤ◌, IsTrue}
 use Rattle.std.specs.Cmp.{both_ways}
-use Rattle.std.specs.Cmp.Lexicographic.{pointwise}
 use Rattle.std.specs.Int.RustNames.{int_le, unsigned_abs}
 use Rattle.std.specs.List.{list_all, AllByRecursion}
 use Rattle.std.proofs.lemmas.Bool.{and_parts, and_from}
@@ -17,7 +16,7 @@ use Rattle.pm_wide.proofs.Words.{one_value, within, value-word, word-pos}
 use Rattle.pm_term.specs.Trees.{Tree}
 use Rattle.ring_forms.specs.declared.form.Part.{Part}
 use Rattle.ring_forms.specs.Atoms.{same_part, same_parts}
-use Rattle.ring_forms.specs.Differences.{same_exactly, number_alone}
+use Rattle.ring_forms.specs.Differences.{same_exactly}
 use Rattle.ring_forms.specs.DifferenceTables.{number_of, number_of_part}
 use Rattle.ring_forms.specs.Forms.{part_of, constant_form}
 use Rattle.ring_forms.specs.RingForms.{form_coefficient, products, same_form}

@@ -2,7 +2,7 @@
 use Rattle.std.specs.Prelude.{ℕ, ◌≡◌, ◌==◌, ◌%◌, ◌^◌, true, if◌then◌else◌, Option, Some, None, List, [], ◌∷◌, length}
 use Rattle.pm_ops.specs.declared.code.Code.TheVariants.{Minus}
 use Rattle.pm_wide.specs.Types.{Word, int128_type}
-use Rattle.pm_term.specs.Trees.{Trees, nil}
+use Rattle.pm_term.specs.Trees.{Trees}
 use Rattle.ring_forms.specs.declared.form.Part.{Part}
 use Rattle.ring_forms.specs.declared.atom.Atom.{Atom}
 use Rattle.ring_forms.specs.declared.exact.Reading.{Reading}

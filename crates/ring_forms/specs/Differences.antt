@@ -3,7 +3,6 @@
 use Rattle.std.specs.Prelude.{ℕ, suc, ◌+◌, Bool, true, not, ◌&&◌, if◌then◌else◌, Option, Some, None, List, [], ◌∷◌, ◌++◌, ℤ, IsTrue}
 use Rattle.std.specs.List.{list_all}
 use Rattle.pm_wide.specs.Operations.{int_same}
-use Rattle.pm_wide.specs.Residues.{residue}
 use Rattle.pm_term.specs.Trees.{Tree, Trees, nil, cons, type_of, operations_of}
 use Rattle.ring_forms.specs.ExactForms.{all_exactly, have_exact_parts}
 use Rattle.ring_forms.specs.RingForms.{all_expanded, form_coefficient, products, same_form, have_forms, same_atom}

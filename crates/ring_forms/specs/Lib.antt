@@ -1,5 +1,6 @@
 pub mod Atoms
 pub mod Differences
+pub mod Digests
 pub mod DifferenceTables
 pub mod DifferenceValues
 pub mod ExactForms

@@ -1,10 +1,9 @@
-//! Atoms, and the table that numbers them.
-ghost use Rattle.std.specs.Prelude.{◌≡◌, ◌≤◌, ◌↔◌, IsTrue, IfOk, OnOk, length};
-ghost use Rattle.ring_forms.specs.Atoms.{atom_number, with_new_atom};
+//! Atoms, and whether two are one.
+ghost use Rattle.std.specs.Prelude.{◌≡◌, ◌↔◌, IsTrue};
 
 use crate::form::{Form, Part};
 use pm_items::Items;
-use pm_ops::{Code, OutOfMemory};
+use pm_ops::Code;
 use pm_wide::IntType;
 
 /// An operand of an atom, by its type and its form.
@@ -21,34 +20,8 @@ pub(crate) enum Atom {
     Operation(Code, IntType, Items<AtomOperand>),
 }
 
-/// The number of an atom, which is added to the table if it is new.
-#[tactic(auto, using(crate::proofs::AtomLemmas::new_atom, crate::proofs::AtomLemmas::old_atom))]
-pub(crate) fn numbered(table: &mut Items<Atom>, atom: Atom) -> Result<usize, OutOfMemory>
-    ensures number { IfOk result (λ number. number ≡ atom_number table.old atom) }
-    ensures table { OnOk result (table.new ≡ with_new_atom table.old atom) }
-{
-    let number = number_in(table.as_slice(), &atom);
-    if number == table.len() {
-        table.push(atom)?;
-    }
-    Ok(number)
-}
-
-/// The place of an atom in the table, or the next one.
-fn number_in(table: &[Atom], atom: &Atom) -> usize
-    ensures value { result ≡ atom_number table.now atom.now }
-    ensures within { result ≤ length table.now }
-{
-    for (i, other) in table.iter().enumerate() {
-        if is_same(other, atom) {
-            return i;
-        }
-    }
-    table.len()
-}
-
 /// Whether two atoms are one.
-fn is_same(a: &Atom, b: &Atom) -> bool
+pub(crate) fn is_same(a: &Atom, b: &Atom) -> bool
     ensures { IsTrue result ↔ (a.now ≡ b.now) }
 {
     match (a, b) {

@@ -8,10 +8,11 @@ ghost use Rattle.ring_forms.specs.Differences.{all_signed, AreOneExactly, exact_
 ghost use Rattle.ring_forms.specs.ExactTables.{blank};
 ghost use Rattle.ring_forms.specs.DifferenceTables.{exact_difference_read, ring_difference_read, AreOneOverReading, AreOneOverTable, number_of, number_of_part, exact_number_read, ring_number_read};
 
-use crate::atom::{Atom, is_same_form};
+use crate::atom::is_same_form;
 use crate::exact::{Reading, exacts_of};
 use crate::form::{Form, Part};
 use crate::ring::{combined, forms_of, type_of};
+use crate::table::AtomTable;
 use pm_items::Items;
 use pm_ops::{Code, OutOfMemory};
 use pm_term::Term;
@@ -105,7 +106,7 @@ fn are_one_over_table(
 ) -> Result<bool, OutOfMemory>
     ensures { IfOk result (λ b. IsTrue b ↔ AreOneOverTable ty.width (trees_of first.now) (trees_of second.now)) }
 {
-    let mut table = Items::new(alloc);
+    let mut table = AtomTable::new(alloc);
     let Some(form) = ring_difference(alloc, ty, first, &mut table)? else {
         return Ok(false);
     };
@@ -131,7 +132,7 @@ pub fn ring_number(alloc: Global, ty: IntType, terms: &[Term]) -> Result<Option<
 fn ring_number_read(alloc: Global, ty: IntType, terms: &[Term]) -> Result<Option<u128>, OutOfMemory>
     ensures { IfOk result (λ n. n ≡ ring_number_read ty.width (trees_of terms.now)) }
 {
-    let mut table = Items::new(alloc);
+    let mut table = AtomTable::new(alloc);
     let Some(form) = ring_difference(alloc, ty, terms, &mut table)? else {
         return Ok(None);
     };
@@ -155,8 +156,8 @@ fn blank(alloc: Global) -> Reading
     ensures { result ≡ blank }
 {
     Reading {
-        inner: Items::new(alloc),
-        atoms: Items::new(alloc),
+        inner: AtomTable::new(alloc),
+        atoms: AtomTable::new(alloc),
         nodes: Items::new(alloc),
     }
 }
@@ -184,7 +185,7 @@ fn ring_difference(
     alloc: Global,
     ty: IntType,
     terms: &[Term],
-    table: &mut Items<Atom>,
+    table: &mut AtomTable,
 ) -> Result<Option<Form>, OutOfMemory>
     ensures { IfOk result (λ form. MatchOption form
         (ring_difference_read ty.width (trees_of terms.now) table.old ≡ None)

@@ -5,7 +5,7 @@ ghost use Rattle.ring_forms.specs.TableForms.{AreEqualOverTable};
 
 use crate::atom::is_same_form;
 use crate::ring::form_of;
-use pm_items::Items;
+use crate::table::AtomTable;
 use pm_ops::OutOfMemory;
 use pm_term::Typed;
 use pm_wide::IntType;
@@ -30,7 +30,7 @@ fn are_equal_over_table(alloc: Global, left: &Typed, right: &Typed) -> Result<bo
     if !is_one_type(ty, right.ty()) {
         return Ok(false);
     }
-    let mut table = Items::new(alloc);
+    let mut table = AtomTable::new(alloc);
     let Some(first) = form_of(alloc, left.term(), ty, &mut table)? else {
         return Ok(false);
     };

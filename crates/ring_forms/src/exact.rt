@@ -10,10 +10,11 @@ ghost use Rattle.ring_forms.specs.ExactForms.{goes_exactly, has_exact_form, IsEx
 ghost use Rattle.ring_forms.specs.ExactTables.{met, exact_read, exact_reads, exact_combined, exact_atom, exact_terms, is_small, is_exact};
 ghost use Rattle.ring_forms.specs.TableForms.{operand_forms};
 
-use crate::atom::{Atom, numbered};
+use crate::atom::Atom;
 use crate::form::{Form, Part, atom, constant, is_within_limits};
 use crate::poly::{Poly, polynomial};
 use crate::ring::{combined, operands_of};
+use crate::table::AtomTable;
 use pm_items::Items;
 use pm_ops::{Code, OutOfMemory};
 use pm_term::{Term, Typed};
@@ -23,8 +24,8 @@ use std::alloc::Global;
 /// The atoms met so far, each with its first node, and the table of what stands in them.
 #[derive(Drop)]
 pub(crate) struct Reading {
-    pub inner: Items<Atom>,
-    pub atoms: Items<Atom>,
+    pub inner: AtomTable,
+    pub atoms: AtomTable,
     pub nodes: Items<Typed>,
 }
 
@@ -51,8 +52,8 @@ fn read_exactly(alloc: Global, term: &Typed) -> Result<Option<Poly>, OutOfMemory
         return Ok(None);
     }
     let mut reading = Reading {
-        inner: Items::new(alloc),
-        atoms: Items::new(alloc),
+        inner: AtomTable::new(alloc),
+        atoms: AtomTable::new(alloc),
         nodes: Items::new(alloc),
     };
     let Some(form) = exact_of(alloc, term.term(), &mut reading)? else {
@@ -158,7 +159,7 @@ fn meet(alloc: Global, atom: Atom, term: &Term, reading: &mut Reading) -> Result
     requires { IsWellTyped (tree_of term.now) }
     ensures { IfOk result (λ number. (number, reading.new) ≡ met atom (tree_of term.now) reading.old) }
 {
-    let number = numbered(&mut reading.atoms, atom)?;
+    let number = reading.atoms.numbered(atom)?;
     if number == reading.nodes.len() {
         reading.nodes.push(Typed::of(alloc, term)?)?;
     }

@@ -11,6 +11,7 @@ mod form;
 pub mod laws;
 mod poly;
 mod ring;
+mod table;
 
 pub use differences::{are_one_exactly, are_one_modulo, exact_number, ring_number};
 pub use equal::ring_equal;

@@ -6,8 +6,9 @@ ghost use Rattle.ring_forms.specs.RingForms.{goes_by_parts, small_constant, cons
 ghost use Rattle.ring_forms.specs.TableForms.{unary_form, binary_form, combined_form, operation_form, ring_form, ring_forms, operand_forms};
 
 use crate::arithmetic::{negated, product, sum};
-use crate::atom::{Atom, AtomOperand, numbered};
+use crate::atom::{Atom, AtomOperand};
 use crate::form::{Form, Part, atom, constant, copied, is_within_limits, reduced};
+use crate::table::AtomTable;
 use pm_items::Items;
 use pm_ops::{Code, OutOfMemory};
 use pm_term::Term;
@@ -21,7 +22,7 @@ pub(crate) fn form_of(
     alloc: Global,
     term: &Term,
     ty: IntType,
-    table: &mut Items<Atom>,
+    table: &mut AtomTable,
 ) -> Result<Option<Form>, OutOfMemory>
     ensures { IfOk result (λ form. MatchOption form
         (ring_form ty.width (tree_of term.now) table.old ≡ None)
@@ -29,7 +30,7 @@ pub(crate) fn form_of(
 {
     match term {
         Term::Name(version, name_ty) => {
-            let number = numbered(table, Atom::Name(*version, *name_ty))?;
+            let number = table.numbered(Atom::Name(*version, *name_ty))?;
             Ok(Some(atom(alloc, number)?))
         }
         Term::Const(word) => Ok(Some(constant(alloc, reduced(word.bits(), ty))?)),
@@ -52,7 +53,7 @@ fn operation_form(
     own: IntType,
     args: &[Term],
     ty: IntType,
-    table: &mut Items<Atom>,
+    table: &mut AtomTable,
 ) -> Result<Option<Form>, OutOfMemory>
     ensures { IfOk result (λ form. MatchOption form
         (operation_form ty.width code own (trees_of args.now) table.old ≡ None)
@@ -73,7 +74,7 @@ fn operation_form(
     let Some(operands) = operands_of(alloc, args, table)? else {
         return Ok(None);
     };
-    let number = numbered(table, Atom::Operation(code, own, operands))?;
+    let number = table.numbered(Atom::Operation(code, own, operands))?;
     Ok(Some(atom(alloc, number)?))
 }
 
@@ -83,7 +84,7 @@ pub(crate) fn forms_of(
     alloc: Global,
     terms: &[Term],
     ty: IntType,
-    table: &mut Items<Atom>,
+    table: &mut AtomTable,
 ) -> Result<Option<Items<Form>>, OutOfMemory>
     ensures { IfOk result (λ forms. MatchOption forms
         (ring_forms ty.width (trees_of terms.now) table.old ≡ None)
@@ -104,7 +105,7 @@ pub(crate) fn forms_of(
 pub(crate) fn operands_of(
     alloc: Global,
     terms: &[Term],
-    table: &mut Items<Atom>,
+    table: &mut AtomTable,
 ) -> Result<Option<Items<AtomOperand>>, OutOfMemory>
     ensures { IfOk result (λ operands. MatchOption operands
         (operand_forms (trees_of terms.now) table.old ≡ None)
