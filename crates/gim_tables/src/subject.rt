@@ -22,17 +22,22 @@ use pm_wide::Operand;
 ///
 /// A subject of matching for every ledger. Names that statements assign are looked through, copies
 /// and phis aren't. An absent place fails every test.
-pub struct OperationView<'a, 'f> {
-    tables: &'a Tables<'f>,
+#[derive(Clone, Copy)]
+pub struct OperationView<'t, 'f, 'a> {
+    tables: &'t Tables<'f>,
     code: Code,
     operands: &'a [Operand],
     ghost well_formed: { IsTrue (is_well_formed tables.now) },
     ghost full: { length operands.now ≡ arity_of code },
 }
 
-impl<'a, 'f> OperationView<'a, 'f> {
+impl<'t, 'f, 'a> OperationView<'t, 'f, 'a> {
     /// An operation on operands.
-    pub fn new(tables: &'a Tables<'f>, code: Code, operands: &'a [Operand]) -> OperationView<'a, 'f>
+    pub fn new(
+        tables: &'t Tables<'f>,
+        code: Code,
+        operands: &'a [Operand],
+    ) -> OperationView<'t, 'f, 'a>
         requires { length operands.now ≡ arity_of code }
         ensures tables { result.tables.now ≡ tables.now }
         ensures code { result.code ≡ code }
@@ -98,7 +103,7 @@ impl<'a, 'f> OperationView<'a, 'f> {
     }
 }
 
-impl<L> Subject<L> for OperationView<'_, '_> {
+impl<L> Subject<L> for OperationView<'_, '_, '_> {
     ghost holds = { λ s at. holds_at (view_of s.tables.now) (operation s.code s.operands.now) at };
 
     ghost operand_at = { λ s at.
